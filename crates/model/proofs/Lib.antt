@@ -1,0 +1,17 @@
+pub mod Basics
+pub mod Sums
+pub mod Coherence
+pub mod Effects
+pub mod Tabled
+pub mod Directory
+pub mod TabledMoves
+pub mod Inv
+pub mod Moves
+pub mod Kept
+pub mod Legality
+pub mod Runs
+pub mod Tally
+pub mod Load
+pub mod Prompt
+pub mod Refusals
+pub mod Whole

@@ -1,0 +1,4 @@
+pub mod Bench
+pub mod Steps
+pub mod Reference
+pub mod Laws

@@ -1,0 +1,4 @@
+pub mod Tests
+pub mod Searches
+pub mod Holders
+pub mod Legality
