@@ -1,1 +1,4 @@
 pub mod Algebra
+pub mod Pair
+pub mod Residues
+pub mod Total

@@ -2,10 +2,31 @@
 ghost use mathlib.Core.Path.{_≡_};
 ghost use Rattle.operation.specs.Algebra.{Algebra};
 
+mod count;
+mod delta;
+mod flags;
+mod pair;
 mod peak;
+#[cfg(test)]
+mod tests;
+mod total;
 
+pub use count::Count;
+pub use count::CountDebug;
+pub use count::CountEq;
+pub use count::CountPartialEq;
+pub use delta::Delta;
+pub use delta::DeltaDebug;
+pub use delta::DeltaEq;
+pub use delta::DeltaPartialEq;
+pub use flags::Flags;
+pub use flags::FlagsOperation;
+pub use pair::Pair;
+pub use pair::PairOperation;
 pub use peak::Peak;
 pub use peak::PeakOperation;
+pub use total::Total;
+pub use total::TotalOperation;
 
 // Updates that may be gathered apart from the value, in any order, and act on it later.
 // An implementation says by `algebra` what its functions compute, and owes the five laws of it;

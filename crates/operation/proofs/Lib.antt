@@ -1,0 +1,5 @@
+pub mod Applied
+pub mod Bits
+pub mod Lawful
+pub mod Numbers
+pub mod Residues
