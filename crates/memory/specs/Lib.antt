@@ -1,1 +1,3 @@
 pub mod Homes
+pub mod Row
+pub mod Register

@@ -9,6 +9,15 @@ ghost use Rattle.operation.specs.Algebra.{applied};
 ghost use Rattle.memory.specs.Homes.{numberOf, loaded, placed};
 use operation::Operation;
 
+mod combining;
+mod plain;
+
+pub use combining::Combining;
+pub use combining::CombiningHome;
+pub use combining::Held;
+pub use plain::PlainCells;
+pub use plain::PlainCellsHome;
+
 // Why a home refuses.
 #[derive(Clone, Copy, PartialEq, Eq, Debug)]
 pub enum Refusal {
@@ -55,4 +64,38 @@ pub trait Home<O: Operation> {
         ensures value { λ r. ⌜ r ≡ placed (meaning (now (self .entry))) place ⌝ }
         ensures after { λ _. ⌜ meaning (now (self .exit)) ≡ applied (O·Operation .algebra) (meaning (now (self .entry))) place partial ⌝ }
         ensures unmoved { λ r. ⌜ (isOk r ≡ false → now (self .exit) ≡ now (self .entry)) ⌝ };
+}
+
+#[cfg(test)]
+mod tests {
+    use super::*;
+    use operation::Peak;
+    use operation::PeakOperation;
+    use std::test::*;
+
+    #[test]
+    fn a_store_forgets_what_is_held(rt: LibcRuntime) -> Result<(), Fail> {
+        let cells = PlainCells::<Peak>::new(vec![in rt.alloc(); 10]?);
+        let mut home = Combining::<Peak, PlainCells<Peak>>::over(cells);
+        home.apply(0, 12)?;
+        home.store(0, 9)?;
+        check_eq(home.load(0)?, 9)
+    }
+
+    fn played<H: Home<Peak>>(home: &mut H) -> Result<(u64, u64), Refusal> {
+        home.apply(0, 12)?;
+        home.apply(1, 30)?;
+        home.apply(0, 11)?;
+        Ok((home.load(0)?, home.load(1)?))
+    }
+
+    #[test]
+    fn two_registers_agree_with_plain_cells(rt: LibcRuntime) -> Result<(), Fail> {
+        let mut plain = PlainCells::<Peak>::new(vec![in rt.alloc(); 10, 20]?);
+        let below = PlainCells::<Peak>::new(vec![in rt.alloc(); 10, 20]?);
+        let lower = Combining::<Peak, PlainCells<Peak>>::over(below);
+        let mut upper = Combining::<Peak, Combining<Peak, PlainCells<Peak>>>::over(lower);
+        check_eq(played(&mut plain)?, (12, 30))?;
+        check_eq(played(&mut upper)?, (12, 30))
+    }
 }

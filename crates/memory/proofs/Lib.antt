@@ -1,0 +1,4 @@
+pub mod Places
+pub mod Applied
+pub mod Acting
+pub mod Rows
