@@ -15,3 +15,5 @@ pub mod Load
 pub mod Prompt
 pub mod Refusals
 pub mod Whole
+pub mod Decisions
+pub mod Sized

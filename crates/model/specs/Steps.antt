@@ -2,11 +2,7 @@
 -- A call makes its checks in rising order of the refusals' numbers; the first that fails refuses and leaves the state.
 --   need       the first check that fails gives its refusal
 --   queue, hit, turn-to, send, grant, clear, close   the moves that the steps are made of
---   own-hit    the party's first line that the request hits
---   conflict   the first conflicting line: the lowest party's, since a party has one line of a cell at most
---   vacant     the party's lowest Invalid way, as a line
---   own-line   the party's line of the cell
---   next-waiting   the first party that waits for the cell, counted upward from the one after the last granted, round past P - 1 to 0
+--   own-hit, conflict, vacant, own-line, whose   the searches of a state
 --   step       a call, as state and answer
 --   made       the state that a make leaves
 --   taken      a call on the tables as they are
@@ -37,11 +33,11 @@ use Rattle.tables.specs.Sets.{has, with, without, isNobody}
 use Rattle.tables.specs.Lines.{target, isHeld, cellOf, isOf, phaseOf, hits, conflicts, isEmpty, waitsFor}
 use Rattle.tables.specs.Legal.{blank, legal}
 use Rattle.tables.specs.Ledgers.{isOpen, countsLow}
-use Rattle.tables.specs.Searches.{first}
 use Rattle.model.specs.declared.call.Call.{Call}
 use Rattle.model.specs.declared.call.Call.the-variants.{Post, Advance, Collect, Yield, Settle}
 use Rattle.model.specs.declared.answer.Answer.{Answer}
 use Rattle.model.specs.declared.answer.Answer.the-variants.{Refused, Hit, Queued, Idle, Recall, Evict, Grant, Collected, Yielded, Settled}
+use Rattle.model.specs.Searches.{ownHit, conflictIn, vacantIn, ownLine, afterLast, servedAt}
 use Rattle.model.specs.Bench.{Bench, State, bench, line, register, entry, lookup, hitLine, valueIn, answerTo, grantedLine, sentHome, allEmpty}
 
 abbrev pub need : Bool → Refusal → Option Refusal → Option Refusal
@@ -107,16 +103,16 @@ module _ {V P R : Type 0} (k : Bench V P R) where
   close s = record { lines = s .lines; directory = s .directory; registers = s .registers; ledger = shut (s .ledger); rule = s .rule; home = s .home }
 
   abbrev pub own-hit : State V P R → ℕ → Request V P → Option ℕ
-  own-hit s p r = first (λ i. hits r (line s i)) (p * k .ways) (k .ways)
+  own-hit s p r = ownHit (k .ways) (s .lines) p r
 
   abbrev pub conflict : State V P R → Request V P → Option ℕ
-  conflict s r = first (λ i. conflicts r (line s i)) 0 (k .parties * k .ways)
+  conflict s r = conflictIn (k .ways) (s .lines) (k .parties) r
 
   abbrev pub vacant : State V P R → ℕ → Option ℕ
-  vacant s q = first (λ i. not (isHeld (line s i))) (q * k .ways) (k .ways)
+  vacant s q = vacantIn (k .ways) (s .lines) q
 
   abbrev pub own-line : State V P R → ℕ → ℕ → Option ℕ
-  own-line s p a = first (λ i. isOf a (line s i)) (p * k .ways) (k .ways)
+  own-line s p a = ownLine (k .ways) (s .lines) p a
 
   -- post
   abbrev pub post-refusal : State V P R → ℕ → Request V P → Option Refusal
@@ -134,16 +130,11 @@ module _ {V P R : Type 0} (k : Bench V P R) where
   abbrev pub advance-refusal : State V P R → ℕ → Option Refusal
   advance-refusal s a = need (fit s) Sizes (need (legal-here s) Illegal (need (isOpen (s .ledger)) LedgerClosed (need (leb (k .cells) (length (s .home))) HomeTooSmall (need (countsLow (s .ledger)) CountTooHigh (need (ltb a (k .cells)) NoSuchCell None)))))
 
-  -- the party d places after the last one granted
   abbrev pub after-last : State V P R → ℕ → ℕ → ℕ
-  after-last s a d = (entry s a .last + 1 + d) % k .parties
-
-  abbrev pub next-waiting : State V P R → ℕ → Option ℕ
-  next-waiting s a = mapped (after-last s a) (first (λ d. waitsFor a (register s (after-last s a d))) 0 (k .parties))
+  after-last s a d = afterLast (k .parties) (entry s a .last) d
 
   abbrev pub whose : Option ℕ → State V P R → ℕ → Option ℕ
-  whose (Some q) s a = Some q
-  whose None s a = next-waiting s a
+  whose t s a = servedAt (k .parties) (s .registers) a (entry s a .last) t
 
   abbrev pub granting : Option (Line V P) → State V P R → ℕ → ℕ → Request V P → ℕ → State V P R × Answer V
   granting None s a q r i = (s, Refused Place)

@@ -1,0 +1,4 @@
+pub mod Sought
+pub mod Answers
+pub mod Grants
+pub mod Checks
