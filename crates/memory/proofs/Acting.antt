@@ -9,7 +9,8 @@ use Rattle.memory.specs.declared.combining.Held.{Held}
 use Rattle.memory.specs.declared.combining.Held.the-variants.{Nothing, At}
 use Rattle.memory.specs.Homes.{placed}
 use Rattle.memory.specs.Register.{acting}
-use Rattle.memory.proofs.Applied.{length-applied, placed-applied}
+use Rattle.operation.proofs.Applied.{length-applied}
+use Rattle.memory.proofs.Applied.{placed-applied}
 
 pub length-acting : {V P : Type 0} (o : Algebra V P) (cs : List V) (h : Held P) → length (acting o cs h) ≡ length cs
 length-acting o cs Nothing = refl

@@ -72,11 +72,6 @@ lookup-applied-other o (y ∷ xs) zero (suc j) d n = refl
 lookup-applied-other o (y ∷ xs) (suc i) zero d n = refl
 lookup-applied-other o (y ∷ xs) (suc i) (suc j) d n = lookup-applied-other o xs i j d (λ e. n (ap suc e))
 
-pub length-applied : {V P : Type 0} (o : Algebra V P) (xs : List V) (i : ℕ) (d : P) → length (applied o xs i d) ≡ length xs
-length-applied o [] i d = refl
-length-applied o (y ∷ xs) zero d = refl
-length-applied o (y ∷ xs) (suc i) d = ap suc (length-applied o xs i d)
-
 pub lookup-some : {X : Type 0} (xs : List X) (i : ℕ) → i < length xs → (x : X) × (lookup xs i ≡ Some x)
 lookup-some [] i h = absurd (not-suc-le-zero h)
 lookup-some (y ∷ xs) zero h = (y, refl)

@@ -8,6 +8,7 @@ use lib.ListN.{getD, length, set}
 use Rattle.std.proofs.shelf.Lists.{length-set}
 use Rattle.std.specs.declared.option.Option.{Option}
 use Rattle.std.specs.declared.option.Option.the-variants.{None, Some}
+use Rattle.operation.proofs.Applied.{length-applied}
 use Rattle.operation.specs.Algebra.{Algebra}
 use Rattle.tables.proofs.Tests.{no}
 use Rattle.tables.specs.Lines.{isEmpty, isHeld}
@@ -16,7 +17,7 @@ use Rattle.tables.specs.declared.line.Line.the-variants.{Invalid, Modified, Sha
 use Rattle.tables.specs.declared.register.Register.{Register}
 use Rattle.tables.specs.declared.register.Register.the-variants.{Answered, Empty, Waiting}
 use Rattle.tables.specs.declared.request.Request.{Request}
-use Rattle.model.proofs.Basics.{length-applied, put-other, put-same, set-put-all}
+use Rattle.model.proofs.Basics.{put-other, put-same, set-put-all}
 use Rattle.model.proofs.Coherence.{Values}
 use Rattle.model.proofs.Tabled.{Tabled}
 use Rattle.model.specs.Bench.{Bench, State, heldCount, line, register, sentHome}

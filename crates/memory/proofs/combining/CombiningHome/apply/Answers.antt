@@ -1,11 +1,11 @@
 use borrow.Author.Needs.{needs}
 use Rattle.memory.proofs.Acting.{acting-at, acting-nothing, length-acting}
-use Rattle.memory.proofs.Applied.{applied-outside, applied-twice}
+use Rattle.operation.proofs.Applied.{applied-past, applied-twice}
 use Rattle.memory.proofs.Places.{placed-within, placed-outside}
 use Rattle.memory.proofs.combining.CombiningHome.apply.Needs as need
 
 pub returns-then-place-cells : need.returns-then-place-cells
-returns-then-place-cells g c = search (needs, length-acting, placed-outside, applied-outside)
+returns-then-place-cells g c = search (needs, length-acting, placed-outside, applied-past)
 
 pub returns-in-At-rest : need.returns-in-At-rest
 returns-in-At-rest g c =

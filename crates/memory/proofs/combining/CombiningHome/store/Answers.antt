@@ -5,7 +5,7 @@ use Rattle.std.proofs.shelf.Lists.{set-past}
 use Rattle.std.proofs.shelf.Results.{err-from-errBy}
 use Rattle.memory.specs.Register.{acting}
 use Rattle.memory.proofs.Acting.{acting-at, placed-acting, same-parts}
-use Rattle.memory.proofs.Applied.{set-applied-same, set-applied-other}
+use Rattle.operation.proofs.Applied.{set-applied, set-applied-apart}
 use Rattle.memory.proofs.Places.{outside-from-placed}
 use Rattle.memory.proofs.combining.CombiningHome.store.Needs as need
 
@@ -25,7 +25,7 @@ returns-in-Break-store g c =
 
 pub returns-in-Continue-store : need.returns-in-Continue-store
 returns-in-Continue-store g c =
-    let was = c .in-Continue-store .was tt in search (needs, acting-at, placed-acting, set-applied-same)
+    let was = c .in-Continue-store .was tt in search (needs, acting-at, placed-acting, set-applied)
 
 pub returns-in-At-rest-2 : need.returns-in-At-rest-2
-returns-in-At-rest-2 g c = search (needs, acting-at, placed-acting, same-parts, set-applied-other)
+returns-in-At-rest-2 g c = search (needs, acting-at, placed-acting, same-parts, set-applied-apart)

@@ -3,7 +3,8 @@ use mathlib.Core.Path.{sym, _∙_}
 use Rattle.std.proofs.shelf.Results.{err-from-errBy}
 use Rattle.std.specs.Of.Vec.{vec-items}
 use Rattle.memory.specs.Row.{counted}
-use Rattle.memory.proofs.Applied.{applied-outside, applied-loaded}
+use Rattle.operation.proofs.Applied.{applied-past}
+use Rattle.memory.proofs.Applied.{applied-loaded}
 use Rattle.memory.proofs.Places.{outside-from-loaded, placed-from-loaded}
 use Rattle.memory.proofs.plain.PlainCellsHome.apply.Needs as need
 
@@ -15,7 +16,7 @@ returns-in-Break-value g c =
     let answer = err-from-errBy (c .from-residual .result) (c .from-residual .ensures .1) in
     let refused = sym (c .load .ensures .value) ∙ c .in-Break-value .was tt in
     let alike = placed-from-loaded cells place refusal refused in
-    let past = applied-outside (g .O·Operation .algebra) cells place (c .args .partial) (outside-from-loaded cells place refusal refused) in
+    let past = applied-past (g .O·Operation .algebra) cells place (c .args .partial) (outside-from-loaded cells place refusal refused) in
     search needs
 
 pub returns : need.returns
