@@ -3,6 +3,16 @@ ghost use mathlib.Core.Path.{_≡_};
 ghost use Prim.Native.Nat.{ℕ, _<_};
 ghost use Rattle.victim.specs.Rules.{Rule, Servable, Touchable};
 
+mod limits;
+mod oldest;
+mod order;
+mod rotate;
+
+pub use oldest::Oldest;
+pub use oldest::OldestVictim;
+pub use rotate::Rotate;
+pub use rotate::RotateVictim;
+
 // A rule is told which way of a party was touched, and picks a way of a party that has `ways` of them.
 // `rule` says what it does, as functions of what it holds.
 // Within the limits (a party below 16, 1 to 8 ways) a pick names an existing way; outside them it answers 0,

@@ -1,0 +1,6 @@
+mod Counting
+mod Orders
+mod Recent
+mod Renewing
+mod Searching
+mod Serving
