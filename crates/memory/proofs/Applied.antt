@@ -27,4 +27,3 @@ loaded-applied-other o (v ∷ vs) zero p zero ne = absurd (ne refl)
 loaded-applied-other o (v ∷ vs) zero p (suc j) ne = refl
 loaded-applied-other o (v ∷ vs) (suc i) p zero ne = refl
 loaded-applied-other o (v ∷ vs) (suc i) p (suc j) ne = loaded-applied-other o vs i p j (λ e. ne (ap suc e))
-

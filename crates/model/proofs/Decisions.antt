@@ -151,9 +151,9 @@ module _ {V P R : Type 0} (k : Bench V P R) (s : State V P R) (ok : Tabled k s) 
               ⊎-elim
               (λ (z : p < q). absurd (both-ways _ (lower p z) (ok .listed a .into p j mine of-j)))
               (λ (z : q ≤ p). ⊎-elim
-                  (λ (y : q < p). absurd (let m : suc q * k .ways ≤ p * k .ways = mul-le-mul-right (k .ways) y in omega (arith, suc-mul q (k .ways), o .1, mine .0)))
-                  (λ (y : p ≤ q). absurd (let e : p ≡ q = omega arith in ok .apart j i (λ w. absurd (omega arith)) a of-j h .2 q (subst (λ w. Owns (k .ways) w j) e mine) o))
-                  (cases-lt q p))
+              (λ (y : q < p). absurd (let m : suc q * k .ways ≤ p * k .ways = mul-le-mul-right (k .ways) y in omega (arith, suc-mul q (k .ways), o .1, mine .0)))
+              (λ (y : p ≤ q). absurd (let e : p ≡ q = omega arith in ok .apart j i (λ w. absurd (omega arith)) a of-j h .2 q (subst (λ w. Owns (k .ways) w j) e mine) o))
+              (cases-lt q p))
               (cases-lt p q)
 
       own : (q : ℕ) → lowest (entry s a .holders) ≡ Some q → clashes r (entry s a .phase) ≡ true → (x : Option ℕ) → own-line k s q a ≡ x → x ≡ first test 0 n

@@ -44,7 +44,7 @@ module _ {V P R : Type 0} (k : Bench V P R) (s : State V P R) where
       request-cells = λ p r l e. rw (ok .directory-length) (subst (λ z. Seated (k .ways) (k .cells) (s .lines) p z) e (ok .seated p) .0);
       turn-parties = λ a q l e. rw (ok .registers-length) (subst (λ z. Turned (s .registers) (k .parties) a z) e (ok .turns a) .0);
       last-parties = λ a l. rw (ok .registers-length) (ok .lasts a);
-      holder-parties = λ a q l h. rw (ok .registers-length) (below a q h)
+      holder-parties = λ a q l h. rw (ok .registers-length) (below a q h);
     };
     single = λ p w x a l m n t u. omega (arith, one-line (p * k .ways + w) (p * k .ways + x) p a (way-own p w m) (way-own p x n) t u (cases-eq (p * k .ways + w) (p * k .ways + x)));
     holders = record {
@@ -53,15 +53,15 @@ module _ {V P R : Type 0} (k : Bench V P R) (s : State V P R) where
           let y = own-way p (t .0) (t .1) in
           (y .0, y .1, subst (λ i. isOf a (line s i) ≡ true) (sym (y .2)) (t .2));
       is-holder = λ a p w l m h. ok .listed a .into p (p * k .ways + w) (way-own p w m) h;
-      in-phase = λ a p w l m h. ok .listed a .phased (p * k .ways + w) h
+      in-phase = λ a p w l m h. ok .listed a .phased (p * k .ways + w) h;
     };
     phases = record {
       unheld = λ a l. ok .listed a .free;
       free = λ a l. ok .listed a .unheld;
-      owner = λ a p q l e h g. one-owned a p q e h g
+      owner = λ a p q l e h g. one-owned a p q e h g;
     };
     turns = λ a q l e. subst (λ z. Turned (s .registers) (k .parties) a z) e (ok .turns a) .1;
-    nothing-hits = λ p w r l m e. subst (λ z. Seated (k .ways) (k .cells) (s .lines) p z) e (ok .seated p) .1 (p * k .ways + w) (way-own p w m)
+    nothing-hits = λ p w r l m e. subst (λ z. Seated (k .ways) (k .cells) (s .lines) p z) e (ok .seated p) .1 (p * k .ways + w) (way-own p w m);
   }
     where
       one-line : (i j p a : ℕ) → Owns (k .ways) p i → Owns (k .ways) p j → isOf a (line s i) ≡ true → isOf a (line s j) ≡ true → (i ≡ j) ⊎ (i ≡ j → ⊥) → i ≡ j
@@ -160,13 +160,13 @@ module _ {V P R : Type 0} (k : Bench V P R) (s : State V P R) where
     apart i j n a x y = (
       in-phase i a x ∙ sym (in-phase j a y),
       λ e.
-      let l : a < length (s .directory) = omega (arith, in-cells i a x) in
-      let p = spot i a x in
-      let q = spot j a y in
-      let o : Owns (k .ways) (p .0) i = subst (λ z. Owns (k .ways) (p .0) z) (p .4) (way-own (p .0) (p .1) (p .3)) in
-      let u : Owns (k .ways) (q .0) j = subst (λ z. Owns (k .ways) (q .0) z) (q .4) (way-own (q .0) (q .1) (q .3)) in
-      let pq : p .0 ≡ q .0 = ok .phases .owner a (p .0) (q .0) l (sym (in-phase i a x) ∙ e) (is-holder i a x (p .0) o) (is-holder j a y (q .0) u) in
-      n (same-line i j a (q .0) (subst (λ z. Owns (k .ways) z i) pq o) u x y),
+          let l : a < length (s .directory) = omega (arith, in-cells i a x) in
+          let p = spot i a x in
+          let q = spot j a y in
+          let o : Owns (k .ways) (p .0) i = subst (λ z. Owns (k .ways) (p .0) z) (p .4) (way-own (p .0) (p .1) (p .3)) in
+          let u : Owns (k .ways) (q .0) j = subst (λ z. Owns (k .ways) (q .0) z) (q .4) (way-own (q .0) (q .1) (q .3)) in
+          let pq : p .0 ≡ q .0 = ok .phases .owner a (p .0) (q .0) l (sym (in-phase i a x) ∙ e) (is-holder i a x (p .0) o) (is-holder j a y (q .0) u) in
+          n (same-line i j a (q .0) (subst (λ z. Owns (k .ways) z i) pq o) u x y),
       λ p o u. n (same-line i j a p o u x y),
     )
 

@@ -6,9 +6,19 @@ use tables::RequestPartialEq;
 
 #[derive(Clone, Copy, PartialEq, Eq, Debug)]
 pub enum Call<V, P> {
-    Post { party: usize, request: Request<V, P> },
-    Advance { cell: usize },
-    Collect { party: usize },
-    Yield { party: usize, cell: usize },
+    Post {
+        party: usize,
+        request: Request<V, P>,
+    },
+    Advance {
+        cell: usize,
+    },
+    Collect {
+        party: usize,
+    },
+    Yield {
+        party: usize,
+        cell: usize,
+    },
     Settle,
 }

@@ -10,9 +10,18 @@ pub enum Next<V, P> {
     // Nobody waits for the cell.
     Idle,
     // A line in conflict with the served party's request goes home.
-    Recall { served: usize, line: usize },
+    Recall {
+        served: usize,
+        line: usize,
+    },
     // The served party has no Invalid way: one that its rule picks goes home.
-    Evict { served: usize },
+    Evict {
+        served: usize,
+    },
     // The served party's request is finished, in its lowest Invalid way.
-    Grant { served: usize, request: Request<V, P>, line: usize },
+    Grant {
+        served: usize,
+        request: Request<V, P>,
+        line: usize,
+    },
 }

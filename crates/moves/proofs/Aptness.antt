@@ -64,11 +64,11 @@ module _ {V P : Type 0} (op : Algebra V P) (ways : ℕ) (ls : List (Line V P)) (
       let t = bare-tabled op ways ls ds rs sizes legal in
       let f = bare-limits op ways ls ds rs sizes in
       record {
-      place = omega (arith, f .1);
-      wide = f .0 .ways-low;
-      narrow = f .0 .ways-high;
-      party = omega (arith, f .0 .parties-high, below k (bare ls ds rs) t i (i / ways) (owns-div ways i (f .0 .ways-low)) l);
-      cell = t .within i h
+        place = omega (arith, f .1);
+        wide = f .0 .ways-low;
+        narrow = f .0 .ways-high;
+        party = omega (arith, f .0 .parties-high, below k (bare ls ds rs) t i (i / ways) (owns-div ways i (f .0 .ways-low)) l);
+        cell = t .within i h;
       }
 
   -- the party's own line of a cell

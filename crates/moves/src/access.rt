@@ -31,7 +31,11 @@ pub fn entry_at(directory: &[Entry], cell: usize) -> Entry
     directory[cell]
 }
 
-pub fn set_register<V: Copy, P: Copy>(registers: &mut [Register<V, P>], party: usize, register: Register<V, P>)
+pub fn set_register<V: Copy, P: Copy>(
+    registers: &mut [Register<V, P>],
+    party: usize,
+    register: Register<V, P>,
+)
     requires { ⌜ party < length (now registers) ⌝ }
     ensures { λ _. ⌜ now (registers .exit) ≡ set (now (registers .entry)) party register ⌝ }
 {
@@ -42,5 +46,9 @@ pub fn set_register<V: Copy, P: Copy>(registers: &mut [Register<V, P>], party: u
 pub fn is_free<V: Copy, P: Copy>(registers: &[Register<V, P>], party: usize) -> bool
     ensures { λ r. ⌜ r ≡ isEmpty (getD (now (registers .entry)) party Empty) ⌝ }
 {
-    if party < registers.len() { register_at(registers, party).is_empty() } else { true }
+    if party < registers.len() {
+        register_at(registers, party).is_empty()
+    } else {
+        true
+    }
 }

@@ -115,7 +115,11 @@ pub fn grant<O: Operation, H: Home<O>, R: Victim>(
         Ok(new) => {
             lines[line] = new;
             add_holder(directory, cell, new, served);
-            set_register(registers, served, Register::Answered(answer_to(request, new)));
+            set_register(
+                registers,
+                served,
+                Register::Answered(answer_to(request, new)),
+            );
             rule.touch(served, line - served * ways);
             ledger.grants += 1;
             Ok(Advanced::Grant(served))

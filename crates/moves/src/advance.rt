@@ -53,19 +53,61 @@ fn perform<O: Operation, H: Home<O>, R: Victim>(
     match next {
         Next::Idle => Ok(Advanced::Idle),
         Next::Recall { served, line } => {
-            Ok(recall::<O, H, R>(lines, directory, registers, ledger, rule, home, ways, cell, served, line))
+            Ok(recall::<O, H, R>(
+                lines,
+                directory,
+                registers,
+                ledger,
+                rule,
+                home,
+                ways,
+                cell,
+                served,
+                line,
+            ))
         }
         Next::Evict { served } => {
-            Ok(evict::<O, H, R>(lines, directory, registers, ledger, rule, home, ways, cell, served))
+            Ok(evict::<O, H, R>(
+                lines,
+                directory,
+                registers,
+                ledger,
+                rule,
+                home,
+                ways,
+                cell,
+                served,
+            ))
         }
-        Next::Grant { served, request, line } => {
-            grant::<O, H, R>(lines, directory, registers, ledger, rule, home, ways, cell, served, request, line)
+        Next::Grant {
+            served,
+            request,
+            line,
+        } => {
+            grant::<O, H, R>(
+                lines,
+                directory,
+                registers,
+                ledger,
+                rule,
+                home,
+                ways,
+                cell,
+                served,
+                request,
+                line,
+            )
         }
     }
 }
 
 // The checks of an advance on legal tables.
-fn advance_checks<O: Operation, H: Home<O>>(ledger: &Ledger, home: &H, cells: usize, cell: usize) -> Result<(), Refusal>
+fn advance_checks<O: Operation, H: Home<O>>(
+    ledger: &Ledger,
+    home: &H,
+    cells: usize,
+    cell: usize,
+) -> Result<(), Refusal>
     ensures { λ r. ⌜ r ≡ passes (need (isOpen (now (ledger .entry))) LedgerClosed (need (leb cells (length (H·Home .meaning (now (home .entry))))) HomeTooSmall (need (countsLow (now (ledger .entry))) CountTooHigh (need (ltb cell cells) NoSuchCell None)))) ⌝ }
 {
     check(ledger.is_open(), Refusal::LedgerClosed)?;
@@ -93,5 +135,15 @@ pub fn advance<O: Operation, H: Home<O>, R: Victim>(
 {
     advance_checks::<O, H>(ledger, home, directory.len(), cell)?;
     let next = decide::<O>(lines, directory, registers, ways, cell);
-    perform::<O, H, R>(lines, directory, registers, ledger, rule, home, ways, cell, next)
+    perform::<O, H, R>(
+        lines,
+        directory,
+        registers,
+        ledger,
+        rule,
+        home,
+        ways,
+        cell,
+        next,
+    )
 }

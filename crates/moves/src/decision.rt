@@ -45,7 +45,11 @@ fn find_conflict<O: Operation>(
 }
 
 // Who is served, given the cell's entry.
-fn served<O: Operation>(registers: &[Register<O::Value, O::Partial>], entry: Entry, cell: usize) -> Option<usize>
+fn served<O: Operation>(
+    registers: &[Register<O::Value, O::Partial>],
+    entry: Entry,
+    cell: usize,
+) -> Option<usize>
     requires { ⌜ entry .last < length (now registers) ⌝ ∗ ⌜ length (now registers) < 17 ⌝ }
     ensures { λ r. ⌜ r ≡ servedAt (length (now (registers .entry))) (now (registers .entry)) cell (entry .last) (entry .turn) ⌝ }
 {
@@ -70,10 +74,17 @@ fn decide_for<O: Operation>(
     ensures { λ r. ⌜ r ≡ requestNext (length (now (registers .entry))) ways (now (lines .entry)) (now (directory .entry)) (now (registers .entry)) party request (conflictIn ways (now (lines .entry)) (length (now (registers .entry))) request) ⌝ }
 {
     if let Some(line) = find_conflict::<O>(lines, directory, registers, ways, request) {
-        return Next::Recall { served: party, line };
+        return Next::Recall {
+            served: party,
+            line,
+        };
     }
     match find_line(lines, party * ways, ways, Sought::Vacant) {
-        Some(line) => Next::Grant { served: party, request, line },
+        Some(line) => Next::Grant {
+            served: party,
+            request,
+            line,
+        },
         None => Next::Evict { served: party },
     }
 }
@@ -95,7 +106,14 @@ pub fn decide<O: Operation>(
         return Next::Idle;
     };
     match register_at(registers, party) {
-        Register::Waiting(request) => decide_for::<O>(lines, directory, registers, ways, party, request),
+        Register::Waiting(request) => decide_for::<O>(
+            lines,
+            directory,
+            registers,
+            ways,
+            party,
+            request,
+        ),
         Register::Empty => Next::Idle,
         Register::Answered(_) => Next::Idle,
     }

@@ -19,7 +19,10 @@ use tables::Request;
 
 // The line that a grant makes: Shared with the loaded value, Modified with the written one, Update-only with
 // neutral joined to the partial.
-pub fn new_line<O: Operation, H: Home<O>>(home: &mut H, request: Request<O::Value, O::Partial>) -> Result<Line<O::Value, O::Partial>, Refusal>
+pub fn new_line<O: Operation, H: Home<O>>(
+    home: &mut H,
+    request: Request<O::Value, O::Partial>,
+) -> Result<Line<O::Value, O::Partial>, Refusal>
     ensures value { λ r. ⌜ r ≡ offered (grantedLine (O·Operation .algebra) request (lookup (H·Home .meaning (now (home .entry))) (target request))) ⌝ }
     ensures home { λ _. ⌜ H·Home .meaning (now (home .exit)) ≡ H·Home .meaning (now (home .entry)) ⌝ }
 {
@@ -30,7 +33,10 @@ pub fn new_line<O: Operation, H: Home<O>>(home: &mut H, request: Request<O::Valu
         },
         Request::Write { cell, value } => Ok(Line::Modified { cell, value }),
         Request::Update { cell, partial } => {
-            Ok(Line::UpdateOnly { cell, partial: O::join(O::neutral(), partial) })
+            Ok(Line::UpdateOnly {
+                cell,
+                partial: O::join(O::neutral(), partial),
+            })
         }
     }
 }
@@ -47,7 +53,12 @@ pub fn answer_to<V: Copy, P: Copy>(request: Request<V, P>, line: Line<V, P>) -> 
 }
 
 // The party becomes a holder of the cell by the line, gives up its turn and is the last one granted.
-pub fn add_holder<V: Copy, P: Copy>(directory: &mut [Entry], cell: usize, line: Line<V, P>, party: usize)
+pub fn add_holder<V: Copy, P: Copy>(
+    directory: &mut [Entry],
+    cell: usize,
+    line: Line<V, P>,
+    party: usize,
+)
     requires { ⌜ cell < length (now directory) ⌝ ∗ ⌜ party < 16 ⌝ }
     ensures { λ _. ⌜ now (directory .exit) ≡ set (now (directory .entry)) cell (joinedBy (getD (now (directory .entry)) cell (blank 0)) (phaseOf line) party) ⌝ }
 {

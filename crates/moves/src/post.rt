@@ -32,7 +32,14 @@ use tables::Request;
 use victim::Victim;
 
 // The checks of a post on legal tables; `free` says that the party's register is Empty.
-fn post_checks(ledger: &Ledger, cells: usize, parties: usize, party: usize, cell: usize, free: bool) -> Result<(), Refusal>
+fn post_checks(
+    ledger: &Ledger,
+    cells: usize,
+    parties: usize,
+    party: usize,
+    cell: usize,
+    free: bool,
+) -> Result<(), Refusal>
     ensures { λ r. ⌜ r ≡ passes (need (isOpen (now (ledger .entry))) LedgerClosed (need (countsLow (now (ledger .entry))) CountTooHigh (need (ltb party parties) NoSuchParty (need (ltb cell cells) NoSuchCell (need free RegisterInUse None))))) ⌝ }
 {
     check(ledger.is_open(), Refusal::LedgerClosed)?;
@@ -44,16 +51,34 @@ fn post_checks(ledger: &Ledger, cells: usize, parties: usize, party: usize, cell
 
 // The line once the request has hit it: a write replaces a Modified value; an update acts on one, or is joined
 // to a held partial, the held one first.
-fn hit_line<O: Operation>(request: Request<O::Value, O::Partial>, line: Line<O::Value, O::Partial>) -> Line<O::Value, O::Partial>
+fn hit_line<O: Operation>(
+    request: Request<O::Value, O::Partial>,
+    line: Line<O::Value, O::Partial>,
+) -> Line<O::Value, O::Partial>
     ensures { λ r. ⌜ r ≡ hitLine (O·Operation .algebra) request line ⌝ }
 {
     match (request, line) {
-        (Request::Write { value, .. }, Line::Modified { cell, .. }) => Line::Modified { cell, value },
-        (Request::Update { partial, .. }, Line::UpdateOnly { cell, partial: held }) => {
-            Line::UpdateOnly { cell, partial: O::join(held, partial) }
+        (Request::Write { value, .. }, Line::Modified { cell, .. }) => Line::Modified {
+            cell,
+            value,
+        },
+        (
+            Request::Update { partial, .. },
+            Line::UpdateOnly {
+                cell,
+                partial: held,
+            },
+        ) => {
+            Line::UpdateOnly {
+                cell,
+                partial: O::join(held, partial),
+            }
         }
         (Request::Update { partial, .. }, Line::Modified { cell, value }) => {
-            Line::Modified { cell, value: O::act(value, partial) }
+            Line::Modified {
+                cell,
+                value: O::act(value, partial),
+            }
         }
         (_, line) => line,
     }
@@ -79,7 +104,11 @@ fn finish_hit<O: Operation, H: Home<O>, R: Victim>(
 {
     let line = line_at(lines, i);
     lines[i] = hit_line::<O>(request, line);
-    set_register(registers, party, Register::Answered(answer_to(request, line)));
+    set_register(
+        registers,
+        party,
+        Register::Answered(answer_to(request, line)),
+    );
     ledger.hits += 1;
     rule.touch(party, i - party * ways);
 }
@@ -103,10 +132,28 @@ pub fn post<O: Operation, H: Home<O>, R: Victim>(
     ensures legal { λ _. ⌜ Legal ways (now (lines .exit)) (now (directory .exit)) (now (registers .exit)) ⌝ }
 {
     let free = is_free(registers, party);
-    post_checks(ledger, directory.len(), registers.len(), party, request.cell(), free)?;
+    post_checks(
+        ledger,
+        directory.len(),
+        registers.len(),
+        party,
+        request.cell(),
+        free,
+    )?;
     match find_line(lines, party * ways, ways, Sought::HitBy(request)) {
         Some(i) => {
-            finish_hit::<O, H, R>(lines, directory, registers, ledger, rule, home, ways, party, request, i);
+            finish_hit::<O, H, R>(
+                lines,
+                directory,
+                registers,
+                ledger,
+                rule,
+                home,
+                ways,
+                party,
+                request,
+                i,
+            );
             Ok(Posted::Hit)
         }
         None => {

@@ -26,7 +26,14 @@ use tables::Register;
 use victim::Victim;
 
 // The checks of a yield on legal tables.
-fn yield_checks<O: Operation, H: Home<O>>(ledger: &Ledger, home: &H, cells: usize, parties: usize, party: usize, cell: usize) -> Result<(), Refusal>
+fn yield_checks<O: Operation, H: Home<O>>(
+    ledger: &Ledger,
+    home: &H,
+    cells: usize,
+    parties: usize,
+    party: usize,
+    cell: usize,
+) -> Result<(), Refusal>
     ensures { λ r. ⌜ r ≡ passes (need (isOpen (now (ledger .entry))) LedgerClosed (need (leb cells (length (H·Home .meaning (now (home .entry))))) HomeTooSmall (need (countsLow (now (ledger .entry))) CountTooHigh (need (ltb party parties) NoSuchParty (need (ltb cell cells) NoSuchCell None))))) ⌝ }
 {
     check(ledger.is_open(), Refusal::LedgerClosed)?;

@@ -34,7 +34,12 @@ impl<V: Copy, P: Copy> Sought<V, P> {
 }
 
 // The first line of the kind among `count` lines from `from` on.
-pub fn find_line<V: Copy, P: Copy>(lines: &[Line<V, P>], from: usize, count: usize, sought: Sought<V, P>) -> Option<usize>
+pub fn find_line<V: Copy, P: Copy>(
+    lines: &[Line<V, P>],
+    from: usize,
+    count: usize,
+    sought: Sought<V, P>,
+) -> Option<usize>
     requires { ⌜ from + count ≤ length (now lines) ⌝ }
     ensures { λ r. ⌜ r ≡ first (λ i. isSought sought (getD (now (lines .entry)) i Invalid)) from count ⌝ }
 {

@@ -7,7 +7,11 @@ use super::access::register_at;
 use tables::Register;
 
 // The first party that waits for the cell, counted upward from the one after `last`, round past the highest to 0.
-pub fn next_waiting<V: Copy, P: Copy>(registers: &[Register<V, P>], cell: usize, last: usize) -> Option<usize>
+pub fn next_waiting<V: Copy, P: Copy>(
+    registers: &[Register<V, P>],
+    cell: usize,
+    last: usize,
+) -> Option<usize>
     requires { ⌜ last < length (now registers) ⌝ ∗ ⌜ length (now registers) ≤ 16 ⌝ }
     ensures { λ r. ⌜ r ≡ nextWaiting (length (now (registers .entry))) (now (registers .entry)) cell last ⌝ }
 {

@@ -119,7 +119,7 @@ module _ {V P : Type 0} (ways : ℕ) (lines : List (Line V P)) (directory : List
       request-cells = λ p r l e. ltb-true (target r) n-cells (subst (λ z. asks-within n-cells z ≡ true) e (every-at (λ p. asks-within n-cells (register p)) n-parties (h3 .0) p l));
       turn-parties = λ a q l e. ltb-true _ _ (and-parts _ _ (turn-at a q l e) .0);
       last-parties = λ a l. ltb-true _ _ (and-parts _ _ (entry-at a l .1) .0);
-      holder-parties = λ a q l. below-parties (entry a .holders) n-parties (ltb-true _ _ (and-parts _ _ (and-parts _ _ (entry-at a l .1) .1) .0)) q
+      holder-parties = λ a q l. below-parties (entry a .holders) n-parties (ltb-true _ _ (and-parts _ _ (and-parts _ _ (entry-at a l .1) .1) .0)) q;
     };
     single = λ p w x a l m n s t.
         ⊎-elim (λ (z : eqb w x ≡ true). eqb-true w x z)
@@ -129,7 +129,7 @@ module _ {V P : Type 0} (ways : ℕ) (lines : List (Line V P)) (directory : List
     holders = record {
       has-line = λ a q l m g. any-at (λ w. isOf a (line q w)) ways (imply-at (has (entry a .holders) q) _ (every-at (holderOk a) n-parties (every-at (λ a. every (holderOk a) n-parties) n-cells (h5 .0) a l) q m) g);
       is-holder = λ a p w l m t. subst (λ c. has (entry c .holders) p ≡ true) (isOf-cell a (line p w) t) (listed p w l m (isOf-held a (line p w) t) .0);
-      in-phase = λ a p w l m t. subst (λ c. phaseOf (line p w) ≡ entry c .phase) (isOf-cell a (line p w) t) (code-same _ _ (eqb-true _ _ (listed p w l m (isOf-held a (line p w) t) .1)))
+      in-phase = λ a p w l m t. subst (λ c. phaseOf (line p w) ≡ entry c .phase) (isOf-cell a (line p w) t) (code-same _ _ (eqb-true _ _ (listed p w l m (isOf-held a (line p w) t) .1)));
     };
     phases = record {
       unheld = λ a l e. set-same _ nobody (eqb-true _ 0 (same-true (eqb (phase-code (entry a .phase)) 0) (isNobody (entry a .holders)) (phase-at a l) .0 (eq-eqb _ 0 (ap phase-code e))));
@@ -138,10 +138,10 @@ module _ {V P : Type 0} (ways : ℕ) (lines : List (Line V P)) (directory : List
           let low : (r : ℕ) → has (entry a .holders) r ≡ true → r < n-parties = below-parties (entry a .holders) n-parties (ltb-true _ _ (and-parts _ _ (and-parts _ _ (entry-at a l .1) .1) .0)) in
           eqb-true p q (imply-at (has (entry a .holders) q) (eqb p q) (imply-at (has (entry a .holders) p) _ (imply-at (eqb (phase-code (entry a .phase)) 3) _
           (every-at (ownerOk a p) n-parties (every-at (λ p. every (ownerOk a p) n-parties) n-parties (every-at (λ a. every (λ p. every (ownerOk a p) n-parties) n-parties) n-cells (h5 .1) a l) p (low p x)) q (low q y))
-          (eq-eqb _ 3 (ap phase-code e))) x) y)
+          (eq-eqb _ 3 (ap phase-code e))) x) y);
     };
     turns = λ a q l e. and-parts _ _ (turn-at a q l e) .1;
-    nothing-hits = λ p w r l m e. not-true (hits r (line p w)) (subst (λ z. misses z (line p w) ≡ true) e (and-parts _ _ (line-at p w l m) .1))
+    nothing-hits = λ p w r l m e. not-true (hits r (line p w)) (subst (λ z. misses z (line p w) ≡ true) e (and-parts _ _ (line-at p w l m) .1));
   }
     where
       Rest5 : Bool

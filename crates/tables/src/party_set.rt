@@ -35,7 +35,9 @@ impl PartySet {
         ensures { λ r. ⌜ r ≡ cond (ltb party 16) (with self party) self ⌝ }
     {
         if party < 16 {
-            PartySet { members: self.members | 1 << party }
+            PartySet {
+                members: self.members | 1 << party,
+            }
         } else {
             self
         }
@@ -46,7 +48,9 @@ impl PartySet {
         ensures { λ r. ⌜ r ≡ cond (ltb party 16) (without self party) self ⌝ }
     {
         if party < 16 {
-            PartySet { members: (self.members | 1 << party) ^ 1 << party }
+            PartySet {
+                members: (self.members | 1 << party) ^ 1 << party,
+            }
         } else {
             self
         }

@@ -69,4 +69,3 @@ returns-in-Answered g c =
     let st = collect-passed op rule (c .args .ways) s (c .pre .sizes) (c .pre .legal) (c .args .party) (passed (collect-rest op rule (c .args .ways) s (c .pre .sizes) (c .pre .legal) (c .args .party)) (c .in-Continue-collect-checks .ensures tt)) ∙ ap (λ x. collect-by k x s (c .args .party)) (sym (c .in-Answered .ensures tt)) in
     let end = same-state refl refl (c .set-register .ensures) refl refl refl ∙ sym (ap (λ z. z .0) st) in
     record { answer = sym (ap (λ z. z .1) st); state = end; legal = subst (λ (z : State _ _ _). Legal (c .args .ways) (z .lines) (z .directory) (z .registers)) (sym end) (stays-legal op rule (c .args .ways) s (c .pre .sizes) (c .pre .legal) (sound op rule (c .args .ways) s (lawful (g .O·Operation·met)) (g .R·Victim·met .within)) (Collect (c .args .party))) }
-
