@@ -10,6 +10,7 @@ use lib.Bits.{bitOr, bitXor, or-shr, xor-shr, or-mod, xor-mod, or-zero-r, xor-ze
 use lib.Dec.{eqb}
 use Rattle.std.proofs.shelf.Tests.{cases-order, cases-bool, eqb-true, eqb-false, eq-eqb}
 use Rattle.std.proofs.shelf.Bits.{pow-pos, pow-below, pow-add, shl-shr, mod-below, div-add-mod'}
+use Rattle.std.proofs.shelf.Ways.{tells}
 use Rattle.tables.specs.declared.party_set.PartySet.{PartySet}
 use Rattle.std.specs.declared.option.Option.the-variants.{Some, None}
 use Rattle.tables.specs.Sets.{has, nobody, with, without, lowestFrom, lowest}
@@ -46,16 +47,33 @@ bit-cases h r = go (bit h r) (mod-below (h / 2 ^ r) 2 (omega arith))
     go (suc zero) h = inr refl
     go (suc (suc x)) h = absurd (omega arith)
 
+-- the bits of the half
+bit-half : (h q : ℕ) → bit (h / 2) q ≡ bit h (suc q)
+bit-half h q = ap (λ x. x % 2) (div-div-eq-div-mul h 2 (2 ^ q) ∙ ap (λ x. h / x) (sym (pow-succ' 2 q)))
+
 -- a number without bits is 0
 no-bits : (h : ℕ) → ((q : ℕ) → eqb (bit h q) 1 ≡ false) → h ≡ 0
 no-bits = bin-ind (λ h. ((q : ℕ) → eqb (bit h q) 1 ≡ false) → h ≡ 0) (λ _. refl)
     (λ h rec none.
-    let half : h / 2 ≡ 0 = rec (λ q. ap (λ x. eqb (x % 2) 1) (div-div-eq-div-mul h 2 (2 ^ q) ∙ ap (λ x. h / x) (sym (pow-succ' 2 q))) ∙ none (suc q)) in
+    let half : h / 2 ≡ 0 = rec (λ q. ap (λ x. eqb x 1) (bit-half h q) ∙ none (suc q)) in
     let odd : h / 1 % 2 ≡ 1 → ⊥ = eqb-false (h / 1 % 2) 1 (none 0) in
+    omega arith)
+
+-- numbers with the same bits are equal
+same-bits : (h g : ℕ) → ((q : ℕ) → eqb (bit h q) 1 ≡ eqb (bit g q) 1) → h ≡ g
+same-bits = bin-ind (λ h. (g : ℕ) → ((q : ℕ) → eqb (bit h q) 1 ≡ eqb (bit g q) 1) → h ≡ g)
+    (λ g alike. sym (no-bits g (λ q. sym (alike q) ∙ ap (λ x. eqb (x % 2) 1) (zero-div (2 ^ q)))))
+    (λ h rec g alike.
+    let half : h / 2 ≡ g / 2 = rec (g / 2) (λ q. ap (λ x. eqb x 1) (bit-half h q) ∙ alike (suc q) ∙ sym (ap (λ x. eqb x 1) (bit-half g q))) in
+    let low : h / 1 % 2 ≡ g / 1 % 2 = (let e = alike 0 in grind (arith, tells)) in
     omega arith)
 
 pub set-same : (h g : PartySet) → h .members ≡ g .members → h ≡ g
 set-same h g e = ap {B = PartySet} (λ (x : ℕ). record { members = x }) e
+
+-- sets with the same members are equal
+pub same-members : (h g : PartySet) → ((q : ℕ) → has h q ≡ has g q) → h ≡ g
+same-members h g alike = set-same h g (same-bits (h .members) (g .members) alike)
 
 pub has-nobody : (q : ℕ) → has nobody q ≡ false
 has-nobody q = ap (λ x. eqb (x % 2) 1) (zero-div (2 ^ q))

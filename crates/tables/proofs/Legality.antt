@@ -22,18 +22,8 @@ use Rattle.tables.specs.Sets.{has, nobody, isNobody}
 use Rattle.tables.specs.Lines.{target, isHeld, cellOf, isOf, phaseOf, hits, waitsFor}
 use Rattle.tables.specs.Legal.{Legal, InRange, HoldersRight, PhasesRight, legal, fits, every, any, phase-code, same, asks-within, misses, line-ok, pair-ok, turn-ok, entry-ok, holder-ok, owner-ok}
 use Rattle.tables.specs.Legal as spec
-use Rattle.tables.proofs.Tests.{no, every-from, every-at, any-from, any-at, imply, imply-at, code-same, isOf-held, isOf-own, isOf-cell}
-use Rattle.tables.proofs.Holders.{set-same, parties-below, below-parties}
-
-same-true : (x y : Bool) → same x y ≡ true → (x ≡ true → y ≡ true) × (y ≡ true → x ≡ true)
-same-true true y h = (λ _. h, λ _. refl)
-same-true false true h = absurd (no h)
-same-true false false h = (λ e. e, λ e. e)
-
-same-from : (x y : Bool) → (x ≡ true → y ≡ true) → (y ≡ true → x ≡ true) → same x y ≡ true
-same-from true y f g = f refl
-same-from false true f g = absurd (no (g refl))
-same-from false false f g = refl
+use Rattle.tables.proofs.Tests.{no, every-from, every-at, any-from, any-at, imply, imply-at, code-same, isOf-held, isOf-own, isOf-cell, misses-from, misses-at, asks-from, asks-at, free-at, free-from}
+use Rattle.tables.proofs.Holders.{parties-below, below-parties}
 
 module _ {V P : Type 0} (ways : ℕ) (lines : List (Line V P)) (directory : List Entry) (registers : List (Register V P)) where
   abbrev n-parties : ℕ
@@ -80,32 +70,22 @@ module _ {V P : Type 0} (ways : ℕ) (lines : List (Line V P)) (directory : List
       and-from _ _ (imply (isHeld (line p w)) _ (λ h.
       let own = isOf-own (line p w) h in
       and-from _ _ (lt-ltb _ _ (ok .in-range .line-cells p w l m h)) (and-from _ _ (ok .holders .is-holder (cellOf (line p w)) p w l m own) (eq-eqb _ _ (ap phase-code (ok .holders .in-phase (cellOf (line p w)) p w l m own))))))
-      (miss p w l m (register p) refl))))
+      (misses-from (register p) (line p w) (λ r. ok .nothing-hits p w r l m)))))
       (and-from _ _ (every-from (λ p. every (λ w. every (pairOk p w) ways) ways) n-parties (λ p l. every-from (λ w. every (pairOk p w) ways) ways (λ w m. every-from (pairOk p w) ways (λ x n. pair p w x l m n))))
-      (and-from _ _ (every-from (λ p. asks-within n-cells (register p)) n-parties (λ p l. ask p l (register p) refl))
+      (and-from _ _ (every-from (λ p. asks-within n-cells (register p)) n-parties (λ p l. asks-from n-cells (register p) (λ r. ok .in-range .request-cells p r l)))
       (and-from _ _ (every-from entryOk n-cells (λ a l.
       and-from _ _ (turn a l (entry a .turn) refl)
       (and-from _ _ (lt-ltb _ _ (ok .in-range .last-parties a l)) (and-from _ _ (lt-ltb _ _ (parties-below (entry a .holders) n-parties (λ q. ok .in-range .holder-parties a q l)))
-      (same-from _ _ (λ e. eq-eqb _ 0 (ap (λ z. z .members) (ok .phases .unheld a l (code-same (entry a .phase) phase.Free (eqb-true _ 0 e))))) (λ e. eq-eqb _ 0 (ap phase-code (ok .phases .free a l (set-same (entry a .holders) nobody (eqb-true _ 0 e))))))))))
+      (free-from (entry a .phase) (entry a .holders) (ok .phases .unheld a l) (ok .phases .free a l))))))
       (and-from _ _ (every-from (λ a. every (holderOk a) n-parties) n-cells (λ a l. every-from (holderOk a) n-parties (λ q m.
       imply (has (entry a .holders) q) _ (λ h. let t = ok .holders .has-line a q l m h in any-from (λ w. isOf a (line q w)) ways (t .0) (t .1) (t .2)))))
       (every-from (λ a. every (λ p. every (ownerOk a p) n-parties) n-parties) n-cells (λ a l. every-from (λ p. every (ownerOk a p) n-parties) n-parties (λ p m. every-from (ownerOk a p) n-parties (λ q n.
       imply (eqb (phase-code (entry a .phase)) 3) _ (λ e. imply (has (entry a .holders) p) _ (λ h. imply (has (entry a .holders) q) _ (λ g. eq-eqb p q (ok .phases .owner a p q l (code-same (entry a .phase) phase.Modified (eqb-true _ 3 e)) h g))))))))))))
     where
-      miss : (p w : ℕ) → p < n-parties → w < ways → (x : Register V P) → register p ≡ x → misses x (line p w) ≡ true
-      miss p w l m Empty e = refl
-      miss p w l m (Waiting r) e = ap not (ok .nothing-hits p w r l m e)
-      miss p w l m (Answered v) e = refl
-
       pair : (p w x : ℕ) → p < n-parties → w < ways → x < ways → pairOk p w x ≡ true
       pair p w x l m n = ⊎-elim (λ (e : w ≡ x). or-left (eqb w x) _ (eq-eqb w x e))
           (λ (d : w ≡ x → ⊥). or-right (eqb w x) _ (imply (isHeld (line p w)) (not (isOf (cellOf (line p w)) (line p x))) (λ h.
           ⊎-elim (λ (t : isOf (cellOf (line p w)) (line p x) ≡ true). absurd (d (ok .single p w x (cellOf (line p w)) l m n (isOf-own (line p w) h) t))) (λ (t : isOf (cellOf (line p w)) (line p x) ≡ false). not-from-false _ t) (cases-bool (isOf (cellOf (line p w)) (line p x)))))) (cases-eq w x)
-
-      ask : (p : ℕ) → p < n-parties → (x : Register V P) → register p ≡ x → asks-within n-cells x ≡ true
-      ask p l Empty e = refl
-      ask p l (Waiting r) e = lt-ltb (target r) n-cells (ok .in-range .request-cells p r l e)
-      ask p l (Answered v) e = refl
 
       turn : (a : ℕ) → a < n-cells → (t : Option ℕ) → entry a .turn ≡ t → turnOk a t ≡ true
       turn a l None e = refl
@@ -116,7 +96,7 @@ module _ {V P : Type 0} (ways : ℕ) (lines : List (Line V P)) (directory : List
   true-legal h = record {
     in-range = record {
       line-cells = λ p w l m g. ltb-true _ _ (and-parts _ _ (held-ok p w l m g) .0);
-      request-cells = λ p r l e. ltb-true (target r) n-cells (subst (λ z. asks-within n-cells z ≡ true) e (every-at (λ p. asks-within n-cells (register p)) n-parties (h3 .0) p l));
+      request-cells = λ p r l. asks-at n-cells (register p) (every-at (λ p. asks-within n-cells (register p)) n-parties (h3 .0) p l) r;
       turn-parties = λ a q l e. ltb-true _ _ (and-parts _ _ (turn-at a q l e) .0);
       last-parties = λ a l. ltb-true _ _ (and-parts _ _ (entry-at a l .1) .0);
       holder-parties = λ a q l. below-parties (entry a .holders) n-parties (ltb-true _ _ (and-parts _ _ (and-parts _ _ (entry-at a l .1) .1) .0)) q;
@@ -132,8 +112,8 @@ module _ {V P : Type 0} (ways : ℕ) (lines : List (Line V P)) (directory : List
       in-phase = λ a p w l m t. subst (λ c. phaseOf (line p w) ≡ entry c .phase) (isOf-cell a (line p w) t) (code-same _ _ (eqb-true _ _ (listed p w l m (isOf-held a (line p w) t) .1)));
     };
     phases = record {
-      unheld = λ a l e. set-same _ nobody (eqb-true _ 0 (same-true (eqb (phase-code (entry a .phase)) 0) (isNobody (entry a .holders)) (phase-at a l) .0 (eq-eqb _ 0 (ap phase-code e))));
-      free = λ a l e. code-same _ phase.Free (eqb-true _ 0 (same-true (eqb (phase-code (entry a .phase)) 0) (isNobody (entry a .holders)) (phase-at a l) .1 (eq-eqb _ 0 (ap (λ z. z .members) e))));
+      unheld = λ a l. free-at (entry a .phase) (entry a .holders) (phase-at a l) .0;
+      free = λ a l. free-at (entry a .phase) (entry a .holders) (phase-at a l) .1;
       owner = λ a p q l e x y.
           let low : (r : ℕ) → has (entry a .holders) r ≡ true → r < n-parties = below-parties (entry a .holders) n-parties (ltb-true _ _ (and-parts _ _ (and-parts _ _ (entry-at a l .1) .1) .0)) in
           eqb-true p q (imply-at (has (entry a .holders) q) (eqb p q) (imply-at (has (entry a .holders) p) _ (imply-at (eqb (phase-code (entry a .phase)) 3) _
@@ -141,7 +121,7 @@ module _ {V P : Type 0} (ways : ℕ) (lines : List (Line V P)) (directory : List
           (eq-eqb _ 3 (ap phase-code e))) x) y);
     };
     turns = λ a q l e. and-parts _ _ (turn-at a q l e) .1;
-    nothing-hits = λ p w r l m e. not-true (hits r (line p w)) (subst (λ z. misses z (line p w) ≡ true) e (and-parts _ _ (line-at p w l m) .1));
+    nothing-hits = λ p w r l m. misses-at (register p) (line p w) (and-parts _ _ (line-at p w l m) .1) r;
   }
     where
       Rest5 : Bool

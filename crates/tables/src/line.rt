@@ -1,5 +1,7 @@
 // One way of a party's cache.
 ghost use mathlib.Core.Path.{_≡_};
+ghost use mathlib.Core.Bool.{cond};
+ghost use Rattle.std.specs.declared.option.Option.the-variants.{Some, None};
 ghost use Rattle.tables.specs.Lines.{isHeld, cellOf, isOf, phaseOf, hits, conflicts};
 use super::entry::Phase;
 use super::request::Request;
@@ -34,6 +36,18 @@ impl<V: Copy, P: Copy> Line<V, P> {
             Line::Shared { cell: own, .. } => *own == cell,
             Line::UpdateOnly { cell: own, .. } => *own == cell,
             Line::Modified { cell: own, .. } => *own == cell,
+        }
+    }
+
+    // The cell that it holds, if any.
+    pub fn cell(&self) -> Option<usize>
+        ensures { λ r. ⌜ r ≡ cond (isHeld (now (self .entry))) (Some (cellOf (now (self .entry)))) None ⌝ }
+    {
+        match self {
+            Line::Invalid => None,
+            Line::Shared { cell, .. } => Some(*cell),
+            Line::UpdateOnly { cell, .. } => Some(*cell),
+            Line::Modified { cell, .. } => Some(*cell),
         }
     }
 

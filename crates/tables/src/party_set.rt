@@ -27,7 +27,7 @@ impl PartySet {
     pub fn has(self, party: usize) -> bool
         ensures { λ r. ⌜ r ≡ has self party ⌝ }
     {
-        party < 16 && self.members >> party & 1 == 1
+        party < 16 && (self.members >> party) % 2 == 1
     }
 
     // The set with the party; one from 16 on has no place in it.

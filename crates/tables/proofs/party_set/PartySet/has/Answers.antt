@@ -1,16 +1,12 @@
--- a bit is a remainder; from bit 16 on a number of 16 bits has none
+-- from bit 16 on a number of 16 bits has none
 use mathlib.Core.Path.{ap, sym, _∙_}
 use Prim.Native.Nat.{ℕ, _/_, _%_, _^_, _<_, _≤_}
 use native.Mathlib.Nat.{div-eq-of-lt}
 use native.Mathlib.Omega.{arith}
 use lib.Dec.{eqb}
 use lib.Pow.{pow-mono}
-use Rattle.std.proofs.shelf.Bits.{and-mask}
 use Rattle.std.proofs.shelf.Tests.{le-ltb}
 use Rattle.tables.proofs.party_set.PartySet.has.Needs as need
-
-pub returns-then-party-lt16 : need.returns-then-party-lt16
-returns-then-party-lt16 c = ap (λ (n : ℕ). eqb n 1) (and-mask (c .args .self .members / 2 ^ c .args .party) 1)
 
 pub returns-else-party-lt16 : need.returns-else-party-lt16
 returns-else-party-lt16 c =

@@ -1,0 +1,5 @@
+pub mod Limits
+pub mod Joins
+pub mod Pass
+pub mod Verdict
+pub mod Audited
