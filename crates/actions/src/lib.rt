@@ -1,4 +1,6 @@
 // The actions that the calls are made of: a line goes home, a request is granted.
+#![tactic(auto)]
+
 mod actions;
 mod granting;
 mod send;

@@ -1,4 +1,6 @@
 // What accepted calls answer, and the answer that a call's result stands for.
+#![tactic(auto)]
+
 ghost use Rattle.std.specs.Prelude.{◌≡◌};
 ghost use Rattle.answers.specs.Answers.{posted, advanced, collected, yielded};
 

@@ -1,5 +1,5 @@
 -- What a line adds to the parties found, and when there is room for it
-use Rattle.std.proofs.Common.{◌≡◌, ℕ, ◌<◌, Bool, true, false, not, ◌&&◌, ◌||◌, eqb, ◌⊎◌, List, length, get_or, set, sym, refl, ap, ◌∙◌, subst, inl, inr, ⊎_elim, arith, get_or_set_other, get_or-set_same}
+use Rattle.std.proofs.Common.{◌≡◌, ℕ, ◌<◌, Bool, true, false, not, ◌&&◌, ◌||◌, eqb, ◌⊎◌, List, length, get_or, set, sym, refl, ap, ◌∙◌, subst, inl, inr, ⊎_elim, arith, get_or-set_other, get_or-set_same}
 use Rattle.std.proofs.lemmas.Bool.{cases_eq, eq-eqb, ne_eqb, eqb-true, both_ways, not-true, not_from_false, and_left, or_right}
 use Rattle.tables.specs.declared.line.Line.{Line}
 use Rattle.tables.specs.declared.line.Line.TheVariants.{Invalid, Shared, UpdateOnly, Modified}
@@ -44,7 +44,7 @@ added_has : (found : List PartySet) (b p a q : ℕ) → b < length found
 added_has found b p a q l = ⊎_elim
     (λ (e : b ≡ a). subst (λ x. has (get_or now x nobody) q ≡ (has (get_or found x nobody) q || (eqb b x && eqb q p))) e
     (ap (λ s. has s q) (get_or-set_same found b (with (get_or found b nobody) p) nobody l) ∙ with_has (get_or found b nobody) p q ∙ ap (λ t. has (get_or found b nobody) q || (t && eqb q p)) (sym (eq-eqb b b refl))))
-    (λ (n : b ≡ a → ⊥). ap (λ s. has s q) (get_or_set_other found b a (with (get_or found b nobody) p) nobody (λ e. n (sym e))) ∙ sym (or_false _ (eqb b a && eqb q p) (and_left (eqb b a) (eqb q p) (ne_eqb b a n))))
+    (λ (n : b ≡ a → ⊥). ap (λ s. has s q) (get_or-set_other found b a (with (get_or found b nobody) p) nobody (λ e. n (sym e))) ∙ sym (or_false _ (eqb b a && eqb q p) (and_left (eqb b a) (eqb q p) (ne_eqb b a n))))
     (cases_eq b a)
   where
     now : List PartySet

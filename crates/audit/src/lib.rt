@@ -1,4 +1,6 @@
 // Whether the tables of a bench are of sound sizes and legal.
+#![tactic(auto)]
+
 ghost use Rattle.std.specs.Prelude.{◌≡◌, true, is_ok, Decides};
 ghost use Rattle.tables.specs.Legal.{fits, Legal};
 ghost use Rattle.audit.specs.Audit.{audited, Sized};

@@ -1,4 +1,6 @@
 // Lists of memory calls as text, read into calls.
+#![tactic(auto)]
+
 mod faults;
 mod fields;
 mod script;

@@ -1,4 +1,6 @@
 // Plays worked cases of the bench and of its parts, and prints every call with its answer.
+#![tactic(auto)]
+
 mod bench;
 mod cases;
 mod parts;

@@ -1,4 +1,6 @@
 // What an advance does next, and the searches of the tables that this and the other calls need.
+#![tactic(auto)]
+
 mod access;
 mod decision;
 mod search;

@@ -1,4 +1,6 @@
 // Piles of memory layers: a layer that counts, and the playing of calls on any pile.
+#![tactic(auto)]
+
 mod calls;
 mod counting;
 

@@ -1,4 +1,6 @@
 // What does a combining register save? Plays a list of memory calls on three piles of layers, and compares them.
+#![tactic(auto)]
+
 #[cfg(test)]
 mod tests;
 

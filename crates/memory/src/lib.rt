@@ -1,4 +1,6 @@
 // Homes: the memory below the directory.
+#![tactic(auto)]
+
 ghost use Rattle.std.specs.Prelude.{◌≡◌, ℕ, ◌≤◌, false, List, length, is_ok, slice_set};
 ghost use Rattle.operation.specs.Algebra.{applied};
 ghost use Rattle.memory.specs.Homes.{number_of, loaded, placed};

@@ -1,6 +1,6 @@
 -- Searches, tables with one place changed, and the checks
 use Rattle.std.proofs.Common.{◌≡◌, ℕ, zero, suc, ◌+◌, ◌*◌, ◌<◌, ◌≤◌, Bool, true, false, cond, eqb, ◌⊎◌, List, [], ◌∷◌, length, get_or, set, Some, None, Option, sym, refl, ap, subst, inl, inr, ⊎_elim, le_of_suc-le-suc, not-suc-le-zero, mul-le-mul_right, suc-mul, arith}
-use Rattle.std.proofs.lemmas.List.{get_or_set_other, get_or-set_same}
+use Rattle.std.proofs.lemmas.List.{get_or-set_other, get_or-set_same}
 use Rattle.std.proofs.lemmas.Bool.{cases_eq, cases_order, eq-eqb, eqb-false, eqb-true, ne_eqb}
 use Rattle.std.specs.Option.{option_map}
 use Rattle.operation.specs.Algebra.{Algebra, applied}
@@ -17,7 +17,7 @@ set_all Q xs i x d h here there j = go (cases_eq j i)
   where
     go : (j ≡ i) ⊎ (j ≡ i → ⊥) → Q j (get_or (set xs i x) j d)
     go (inl e) = subst (λ n. Q n (get_or (set xs i x) n d)) (sym e) (subst (λ y. Q i y) (sym (get_or-set_same xs i x d h)) here)
-    go (inr n) = subst (λ y. Q j y) (sym (get_or_set_other xs i j x d n)) (there j n)
+    go (inr n) = subst (λ y. Q j y) (sym (get_or-set_other xs i j x d n)) (there j n)
 
 -- the same for a function with one place changed
 pub put_all : {X : Type 0} (Q : ℕ → X → Type 0) (f : ℕ → X) (i : ℕ) (x : X) → Q i x → ((j : ℕ) → (j ≡ i → ⊥) → Q j (f j)) → (j : ℕ) → Q j (put f i x j)

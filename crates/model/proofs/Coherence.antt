@@ -1,6 +1,6 @@
 -- The lines agree with one another, and their values with the home and with the reference memory
 use Rattle.std.proofs.Common.{◌≡◌, ℕ, ◌<◌, Bool, true, false, eqb, ◌⊎◌, List, length, get_or, set, Some, None, Option, sym, refl, ap, ◌∙◌, subst, inl, inr, ⊎_elim, arith}
-use Rattle.std.proofs.lemmas.List.{get_or_set_other, get_or-set_same}
+use Rattle.std.proofs.lemmas.List.{get_or-set_other, get_or-set_same}
 use Rattle.std.proofs.lemmas.Bool.{cases_eq, eqb-false}
 use Rattle.std.specs.Option.{option_map}
 use Rattle.operation.specs.Algebra.{Algebra, Lawful}
@@ -95,7 +95,7 @@ module _ {V P : Type 0} (o : Algebra V P) (law : Lawful o) (ls : List (Line V P)
       before : (c : ℕ) → (c ≡ a → ⊥) → ((j : ℕ) → owned c (get_or (set ls i x) j Invalid) ≡ false) → (j : ℕ) → owned c (get_or ls j Invalid) ≡ false
       before c m none j =
           ⊎_elim (λ (e : j ≡ i). subst (λ t. owned c (get_or ls t Invalid) ≡ false) (sym e) (owns c m ∙ at_i c none))
-          (λ (e : j ≡ i → ⊥). subst (λ l. owned c l ≡ false) (get_or_set_other ls i j x Invalid e) (none j)) (cases_eq j i)
+          (λ (e : j ≡ i → ⊥). subst (λ l. owned c l ≡ false) (get_or-set_other ls i j x Invalid e) (none j)) (cases_eq j i)
 
       go : (c : ℕ) → ((j : ℕ) → owned c (get_or (set ls i x) j Invalid) ≡ false) → (c ≡ a) ⊎ (c ≡ a → ⊥) → value' c ≡ option_map (λ v. o.act v (pend o c (set ls i x))) (lookup home c)
       go c none (inl e) =

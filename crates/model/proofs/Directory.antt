@@ -1,7 +1,7 @@
 -- What the steps leave of the directory's agreement with the lines
 use Rattle.std.proofs.Common.{◌≡◌, ℕ, ◌/◌, ◌<◌, ◌≤◌, true, false, cond, ◌⊎◌, List, length, get_or, set, sym, refl, ap, ◌∙◌, subst, inl, inr, ⊎_elim, arith}
 use Rattle.std.proofs.lemmas.Nat.{div-add-mod', mod_below}
-use Rattle.std.proofs.lemmas.List.{get_or_set_other, get_or-set_same}
+use Rattle.std.proofs.lemmas.List.{get_or-set_other, get_or-set_same}
 use Rattle.std.proofs.lemmas.Bool.{both_ways, cases_Bool, cases_eq, eq-eqb, ne_eqb}
 use Rattle.operation.specs.Algebra.{Algebra}
 use Rattle.party_set.proofs.Holders.{has_nobody, set_same, with_other, with_same, without_other, without_same}
@@ -88,7 +88,7 @@ module _ {V P : Type 0} (w : ℕ) (wide : 1 ≤ w) (ls : List (Line V P)) (i : �
   gone : (a j : ℕ) → is_of a (get_or (set ls i Invalid) j Invalid) ≡ true → (j ≡ i → ⊥) × (is_of a (get_or ls j Invalid) ≡ true)
   gone a j h =
       let n : j ≡ i → ⊥ = λ e. no (sym (ap (is_of a) (get_or-set_same ls i Invalid Invalid short)) ∙ subst (λ z. is_of a (get_or (set ls i Invalid) z Invalid) ≡ true) e h) in
-      (n, sym (ap (is_of a) (get_or_set_other ls i j Invalid Invalid n)) ∙ h)
+      (n, sym (ap (is_of a) (get_or-set_other ls i j Invalid Invalid n)) ∙ h)
 
   -- at the line's own cell
   listed_left : (b : ℕ) (e : Entry) → is_of b (get_or ls i Invalid) ≡ true → Listed w ls b e → Listed w (set ls i Invalid) b (left_by e (i / w))
@@ -97,12 +97,12 @@ module _ {V P : Type 0} (w : ℕ) (wide : 1 ≤ w) (ls : List (Line V P)) (i : �
         let n : q ≡ i / w → ⊥ = λ z. both_ways _ (without_same e.holders (i / w)) (subst (λ y. has (without e.holders (i / w)) y ≡ true) z h) in
         let t = x.from q (sym (without_other e.holders (i / w) q n) ∙ h) in
         let d : t.0 ≡ i → ⊥ = λ z. n (one_owner w q (i / w) i (subst (λ y. Owns w q y) z t.1) mine) in
-        (t.0, t.1, ap (is_of b) (get_or_set_other ls i t.0 Invalid Invalid d) ∙ t.2);
+        (t.0, t.1, ap (is_of b) (get_or-set_other ls i t.0 Invalid Invalid d) ∙ t.2);
     into = into';
     phased = λ j h.
         let g = gone b j h in
         let more : without e.holders (i / w) ≡ nobody → ⊥ = λ z. both_ways _ (has_nobody (j / w)) (ap (λ y. has y (j / w)) (sym z) ∙ into' (j / w) j (owns_div w j wide) h) in
-        ap phase_of (get_or_set_other ls i j Invalid Invalid g.0) ∙ x.phased j g.1 ∙ sym (ap (λ y. cond y phase.Free e.phase) (some_holder (without e.holders (i / w)) more));
+        ap phase_of (get_or-set_other ls i j Invalid Invalid g.0) ∙ x.phased j g.1 ∙ sym (ap (λ y. cond y phase.Free e.phase) (some_holder (without e.holders (i / w)) more));
     free = λ z. free' z (holder_cases (without e.holders (i / w)));
     unheld = λ z. ap (λ y. cond y phase.Free e.phase) (no_holder (without e.holders (i / w)) z);
   }
@@ -126,7 +126,7 @@ module _ {V P : Type 0} (w : ℕ) (wide : 1 ≤ w) (ls : List (Line V P)) (i : �
   listed_off : (a : ℕ) (e : Entry) → is_of a (get_or ls i Invalid) ≡ false → Listed w ls a e → Listed w (set ls i Invalid) a e
   listed_off a e off x = listed_like w ls (set ls i Invalid) a e
       (set_all (λ j l. is_of a l ≡ is_of a (get_or ls j Invalid)) ls i Invalid Invalid short (sym off) (λ j n. refl))
-      (λ j h. ap phase_of (get_or_set_other ls i j Invalid Invalid (gone a j h).0)) x
+      (λ j h. ap phase_of (get_or-set_other ls i j Invalid Invalid (gone a j h).0)) x
 
   -- the directory after a line is sent home
   pub listed_send : (d : List Entry) (blank : Entry) → cell_of (get_or ls i Invalid) < length d → is_held (get_or ls i Invalid) ≡ true
@@ -160,12 +160,12 @@ module _ {V P : Type 0} (w : ℕ) (ls : List (Line V P)) (i : ℕ) (short : i < 
       from' p h (inl z) = (i, subst (λ t. Owns w t i) (sym z) mine, ap (is_of a) (get_or-set_same ls i x Invalid short) ∙ at_a)
       from' p h (inr n) =
           let t = y.from p (sym (with_other e.holders q p n) ∙ h) in
-          (t.0, t.1, ap (is_of a) (get_or_set_other ls i t.0 x Invalid (was_free a t.0 t.2)) ∙ t.2)
+          (t.0, t.1, ap (is_of a) (get_or-set_other ls i t.0 x Invalid (was_free a t.0 t.2)) ∙ t.2)
 
       into' : (p j : ℕ) → Owns w p j → is_of a (get_or (set ls i x) j Invalid) ≡ true → (j ≡ i) ⊎ (j ≡ i → ⊥) → has (with e.holders q) p ≡ true
       into' p j t h (inl z) = subst (λ u. has (with e.holders q) u ≡ true) (one_owner w q p i mine (subst (λ u. Owns w p u) z t)) (with_same e.holders q)
       into' p j t h (inr n) =
-          let old : has e.holders p ≡ true = y.into p j t (sym (ap (is_of a) (get_or_set_other ls i j x Invalid n)) ∙ h) in
+          let old : has e.holders p ≡ true = y.into p j t (sym (ap (is_of a) (get_or-set_other ls i j x Invalid n)) ∙ h) in
           ⊎_elim (λ (z : p ≡ q). subst (λ u. has (with e.holders q) u ≡ true) (sym z) (with_same e.holders q)) (λ (z : p ≡ q → ⊥). with_other e.holders q p z ∙ old) (cases_eq p q)
 
   listed_beside : (c : ℕ) (e : Entry) → (c ≡ a → ⊥) → Listed w ls c e → Listed w (set ls i x) c e

@@ -1,7 +1,7 @@
 -- What sending home, a hit and a grant leave of the lines' agreement
 -- tests on lines
 use Rattle.std.proofs.Common.{◌≡◌, ℕ, ◌<◌, ◌≤◌, true, false, eqb, ◌⊎◌, List, length, get_or, set, Some, None, Option, sym, refl, ap, ◌∙◌, subst, inl, inr, ⊎_elim, arith}
-use Rattle.std.proofs.lemmas.List.{get_or_set_other, set-get_or}
+use Rattle.std.proofs.lemmas.List.{get_or-set_other, set-get_or}
 use Rattle.std.proofs.lemmas.Bool.{both_ways, cases_Bool, cases_eq, eq-eqb, eqb-false, eqb-true, ne_eqb}
 use Rattle.std.specs.Option.{option_map}
 use Rattle.operation.specs.Algebra.{Algebra, Lawful, applied}
@@ -126,7 +126,7 @@ module _ {V P : Type 0} (o : Algebra V P) (law : Lawful o) (w n : ℕ) (ls : Lis
   pub values_send : Values o (set ls i Invalid) (sent_home o home (get_or ls i Invalid)) value
   values_send = record {
     good = set_all (λ j l. Good (sent_home o home (get_or ls i Invalid)) value l) ls i Invalid Invalid short tt (λ j m. send_good (get_or ls i Invalid) (get_or ls j Invalid) j (apart i j (λ t. m (sym t))) (vals.good j));
-    sums = λ a none. send_sums (get_or ls i Invalid) refl a (λ j m. subst (λ l. owned a l ≡ false) (get_or_set_other ls i j Invalid Invalid m) (none j));
+    sums = λ a none. send_sums (get_or ls i Invalid) refl a (λ j m. subst (λ l. owned a l ≡ false) (get_or-set_other ls i j Invalid Invalid m) (none j));
   }
 
   -- a hit on a Modified line

@@ -1,7 +1,7 @@
 -- How much the lines leave to do before a party is granted
 -- a table with one place changed, where both the old and the new will do
 use Rattle.std.proofs.Common.{◌≡◌, ℕ, zero, suc, ◌+◌, ◌*◌, ◌<◌, ◌≤◌, Bool, true, false, not, ◌||◌, List, [], ◌∷◌, length, get_or, set, Some, None, Option, sym, refl, ap, ◌∙◌, ⊎_elim, arith}
-use Rattle.std.proofs.lemmas.List.{get_or_set_other, get_or-set_same}
+use Rattle.std.proofs.lemmas.List.{get_or-set_other, get_or-set_same}
 use Rattle.std.proofs.lemmas.Bool.{both_ways, cases_eq, or_from, or_parts}
 use Rattle.operation.specs.Algebra.{Algebra}
 use Rattle.tables.proofs.Tests.{no}
@@ -127,7 +127,7 @@ module _ {V P : Type 0} (n w : ℕ) (ls : List (Line V P)) (q : ℕ) (r : Reques
       omega (
         arith,
         tally_less (λ j. conflicts r (get_or ls j Invalid)) (λ j. conflicts r (get_or (set ls i Invalid) j Invalid)) (n * w) i low h
-            (ap (conflicts r) (get_or-set_same ls i Invalid Invalid short) ∙ conflicts_invalid r) (λ j m. ap (conflicts r) (get_or_set_other ls i j Invalid Invalid m)),
+            (ap (conflicts r) (get_or-set_same ls i Invalid Invalid short) ∙ conflicts_invalid r) (λ j m. ap (conflicts r) (get_or-set_other ls i j Invalid Invalid m)),
         missing_mono (λ j. loose r (get_or ls j Invalid)) (λ j. loose r (get_or (set ls i Invalid) j Invalid)) (q * w) w
             (λ j _ _ h. set_any (λ j l. loose r (get_or ls j Invalid) ≡ true → loose r l ≡ true) ls i Invalid Invalid (λ _. refl) (λ j h. h) j h),
       )

@@ -1,7 +1,7 @@
 -- A request that waits is granted in time
 -- what an answer to an advance of b counts for a
 use Rattle.std.proofs.Common.{◌≡◌, ℕ, zero, suc, ◌+◌, ◌-◌, ◌*◌, ◌/◌, ◌%◌, ◌<◌, ◌≤◌, Bool, true, false, cond, not, eqb, ltb, leb, ◌⊎◌, List, [], ◌∷◌, ◌++◌, length, get_or, set, Some, None, Option, sym, refl, ap, ◌∙◌, subst, inl, inr, ⊎_elim, mul-le-mul_left, arith}
-use Rattle.std.proofs.lemmas.List.{get_or_set_other, get_or-set_same}
+use Rattle.std.proofs.lemmas.List.{get_or-set_other, get_or-set_same}
 use Rattle.std.proofs.lemmas.Bool.{both_ways, cases_Bool, cases_eq, cases_lt, eq-eqb, eqb-true, ltb-true, ne_eqb, not-false}
 use Rattle.std.specs.Option.{option_map}
 use Rattle.tables.proofs.Tests.{is_of_cell, no}
@@ -47,7 +47,7 @@ waiting_same e = cc
 -- a register that waits for the cell is not one that does not
 pub register_keeps : {V P : Type 0} (rs : List (Register V P)) (p : ℕ) (x : Register V P) (q : ℕ) (r : Request V P) (a : ℕ) → waits_for a (get_or rs p Empty) ≡ false → get_or rs q Empty ≡ Waiting r → target r ≡ a → get_or (set rs p x) q Empty ≡ Waiting r
 register_keeps rs p x q r a off on same =
-    get_or_set_other rs p q x Empty (λ (e : q ≡ p). both_ways _ off (ap (λ z. waits_for a (get_or rs z Empty)) (sym e) ∙ ap (waits_for a) on ∙ eq-eqb (target r) a same)) ∙ on
+    get_or-set_other rs p q x Empty (λ (e : q ≡ p). both_ways _ off (ap (λ z. waits_for a (get_or rs z Empty)) (sym e) ∙ ap (waits_for a) on ∙ eq-eqb (target r) a same)) ∙ on
 
 -- what is left to do for party p at the cell, at most m
 abbrev pub DueBy : {V P : Type 0} → ℕ → ℕ → List (Line V P) → List (Register V P) → ℕ → ℕ → ℕ → Option ℕ → ℕ → Type 0
@@ -100,7 +100,7 @@ module _ {V P R : Type 0} (k : Bench V P R) (sound : Sound k) (p : ℕ) (low : p
       due_keeps s (turn_to k s a q) m (ap (λ e. e.turn) same) (ap (λ e. e.last) same) (λ q r e f. (e, omega arith)) d
     where
       same : entry (turn_to k s a q) (target r₀) ≡ entry s (target r₀)
-      same = get_or_set_other s.directory a (target r₀) (with_turn (entry s a) q) (blank 0) n
+      same = get_or-set_other s.directory a (target r₀) (with_turn (entry s a) q) (blank 0) n
 
   module _ (s : State V P R) (b : Reference V P) (inv : Inv k s b) (waits : register s p ≡ Waiting r₀) (m : ℕ) (due : Due s m) where
     unchanged : (c : Call V P) (x : Answer V) → advanced (target r₀) c x ≡ 0 → Progress m c x s
@@ -207,7 +207,7 @@ module _ {V P R : Type 0} (k : Bench V P R) (sound : Sound k) (p : ℕ) (low : p
           )
         where
           kept : entry (grant k s a q r i l) (target r₀) ≡ entry s (target r₀)
-          kept = get_or_set_other s.directory a (target r₀) _ (blank 0) other
+          kept = get_or-set_other s.directory a (target r₀) _ (blank 0) other
 
       rooming-off : (x : Option ℕ) → vacant k s q ≡ x → Progress m (Advance a) (rooming k x s a q r).1 (rooming k x s a q r).0
       rooming-off None e = send-off (q * k.ways + k.victim.picked s.rule q k.ways) (evict_more s.ledger) (k.victim.after s.rule q k.ways) (Evict (k.victim.picked s.rule q k.ways))
@@ -337,7 +337,7 @@ module _ {V P R : Type 0} (k : Bench V P R) (sound : Sound k) (p : ℕ) (low : p
                 inl (
                   m - 1,
                   omega (arith, counts (Grant q) refl, b', load_low k.parties k.ways s.lines q r),
-                  get_or_set_other s.registers q p _ Empty (λ e. n (sym e)) ∙ waits,
+                  get_or-set_other s.registers q p _ Empty (λ e. n (sym e)) ∙ waits,
                   subst (λ z. DueBy k.parties k.ways (set s.lines i l) (grant k s (target r₀) q r i l).registers (target r₀) p z.last z.turn (m - 1)) (sym new) (omega (arith, b', load_low k.parties k.ways s.lines q r)),
                 )
 

@@ -1,6 +1,6 @@
 -- The invariant of legal tables, in the form in which the moves keep it
 use Rattle.std.proofs.Common.{◌≡◌, ℕ, ◌*◌, ◌<◌, ◌≤◌, true, false, List, length, get_or, set, Some, None, Option, refl, ap, ◌∙◌, subst}
-use Rattle.std.proofs.lemmas.List.{get_or_set_other}
+use Rattle.std.proofs.lemmas.List.{get_or-set_other}
 use Rattle.std.proofs.lemmas.Bool.{both_ways}
 use Rattle.tables.proofs.Tests.{no}
 use Rattle.tables.specs.Lines.{hits, is_empty, is_held, is_of, phase_of, target, waits_for}
@@ -66,7 +66,7 @@ seated_lines w n ls ms p (Answered v) h d = tt
 pub turned_set : {V P : Type 0} (rs : List (Register V P)) (p : ℕ) (x : Register V P) (n a : ℕ) (t : Option ℕ) → waits_for a (get_or rs p Empty) ≡ false → Turned rs n a t → Turned (set rs p x) n a t
 turned_set rs p x n a None h u = tt
 turned_set rs p x n a (Some q) h u =
-    (u.0, ap (waits_for a) (get_or_set_other rs p q x Empty (λ (e : q ≡ p). both_ways _ h (subst (λ z. waits_for a (get_or rs z Empty) ≡ true) e u.1))) ∙ u.1)
+    (u.0, ap (waits_for a) (get_or-set_other rs p q x Empty (λ (e : q ≡ p). both_ways _ h (subst (λ z. waits_for a (get_or rs z Empty) ≡ true) e u.1))) ∙ u.1)
 
 pub no_wait : {V P : Type 0} (a : ℕ) (x : Register V P) → is_empty x ≡ true → waits_for a x ≡ false
 no_wait a Empty h = refl

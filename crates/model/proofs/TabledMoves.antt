@@ -1,6 +1,6 @@
 -- Each move keeps the tables legal
 use Rattle.std.proofs.Common.{◌≡◌, ℕ, ◌*◌, ◌/◌, ◌<◌, true, false, length, set, Some, None, Option, sym, refl, ap, ◌∙◌, subst, arith}
-use Rattle.std.proofs.lemmas.List.{get_or_set_other, length-set}
+use Rattle.std.proofs.lemmas.List.{get_or-set_other, length-set}
 use Rattle.std.proofs.lemmas.Bool.{ne_eqb}
 use Rattle.operation.specs.Algebra.{Algebra}
 use Rattle.tables.proofs.Tests.{is_of_cell, no}
@@ -140,7 +140,7 @@ module _ {V P R : Type 0} (k : Bench V P R) (s : State V P R) (inv : Tabled k s)
         (λ h. subst (λ c. c < k.cells) (sym (cell_hit_line k.op r (line s i))) (inv.within i (sym (held_hit_line k.op r (line s i)) ∙ h))) (λ j _. inv.within j);
     seated = set_all (λ j z. Seated k.ways k.cells (set s.lines i new) j z) s.registers p answer Empty (omega (arith, inv.registers_length)) tt
         (λ j m. seated_lines k.ways k.cells s.lines (set s.lines i new) j (register s j)
-        (λ r' t o h. ap (hits r') (get_or_set_other s.lines i t new Invalid (λ (e : t ≡ i). m (one_owner k.ways j p i (subst (λ z. Owns k.ways j z) e o) mine))) ∙ h) (inv.seated j));
+        (λ r' t o h. ap (hits r') (get_or-set_other s.lines i t new Invalid (λ (e : t ≡ i). m (one_owner k.ways j p i (subst (λ z. Owns k.ways j z) e o) mine))) ∙ h) (inv.seated j));
     turns = λ a. turned_set s.registers p answer k.parties a (entry s a).turn (no_wait a (register s p) empty) (inv.turns a);
     lasts = inv.lasts;
     listed = λ a. listed_like k.ways s.lines (set s.lines i new) a (entry s a)
@@ -169,7 +169,7 @@ module _ {V P R : Type 0} (k : Bench V P R) (s : State V P R) (inv : Tabled k s)
     within = set_all (λ j l. is_held l ≡ true → cell_of l < k.cells) s.lines i x Invalid short (λ _. subst (λ c. c < k.cells) (sym at) low) (λ j _. inv.within j);
     seated = set_all (λ j z. Seated k.ways k.cells (set s.lines i x) j z) s.registers q answer Empty (omega (arith, inv.registers_length)) tt
         (λ j m. seated_lines k.ways k.cells s.lines (set s.lines i x) j (register s j)
-        (λ r' t o h. ap (hits r') (get_or_set_other s.lines i t x Invalid (λ (e : t ≡ i). m (one_owner k.ways j q i (subst (λ z. Owns k.ways j z) e o) mine))) ∙ h) (inv.seated j));
+        (λ r' t o h. ap (hits r') (get_or-set_other s.lines i t x Invalid (λ (e : t ≡ i). m (one_owner k.ways j q i (subst (λ z. Owns k.ways j z) e o) mine))) ∙ h) (inv.seated j));
     turns = set_all (λ c e. Turned (set s.registers q answer) k.parties c e.turn) s.directory a e' (blank 0) in-directory tt
         (λ c n. turned_set s.registers q answer k.parties c (entry s c).turn (ap (waits_for c) waits ∙ ne_eqb (target r) c (λ z. n (sym z ∙ same))) (inv.turns c));
     lasts = set_all (λ c e. e.last < k.parties) s.directory a e' (blank 0) in-directory fits (λ c _. inv.lasts c);

@@ -1,5 +1,7 @@
 // The calls on tables that are known to be legal.
 // Hosts call `protocol`, which audits first; a run, whose tables stay legal, calls these.
+#![tactic(auto)]
+
 mod checks;
 mod collect;
 mod post;

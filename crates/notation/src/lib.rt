@@ -1,4 +1,6 @@
 // How values and partials are written: as fields of a line, and in a report.
+#![tactic(auto)]
+
 mod notation;
 mod number;
 

@@ -1,4 +1,6 @@
 // Update operations: a kind of value, a kind of partial update, and the laws between them.
+#![tactic(auto)]
+
 ghost use Rattle.std.specs.Prelude.{◌≡◌};
 ghost use Rattle.operation.specs.Algebra.{Algebra};
 

@@ -23,7 +23,7 @@ impl<A: Operation, B: Operation> Operation for Pair<A, B> {
 
     ghost unit = { Prim.search rules };
 
-    ghost still = { Prim.search rules };
+    ghost still = { λ v i. (A.still v.0 i, B.still v.1 i) };
 
     ghost twice = { Prim.search rules };
 

@@ -1,4 +1,6 @@
 // A set of parties, which are numbered from 0 to 15.
+#![tactic(auto)]
+
 ghost use Rattle.std.specs.Prelude.{◌≡◌, if◌then◌else◌, nat_lt};
 ghost use Rattle.party_set.specs.Sets.{nobody, has, with, without, is_nobody, lowest};
 

@@ -1,4 +1,6 @@
 // Piles of layers over plain cells, each with a count of what reaches the cells.
+#![tactic(auto)]
+
 ghost use Rattle.std.specs.Prelude.{◌≡◌, IfOk};
 ghost use Rattle.memory.specs.Register.{acting};
 ghost use Rattle.memory.specs.Row.{counted};

@@ -1,5 +1,7 @@
 // The calls of a bench, for hosts. Every call takes any tables and any numbers: it checks first, in rising order of
 // the refusals' numbers, and either refuses and leaves all as it was, or does exactly one step.
+#![tactic(auto)]
+
 mod calls;
 
 pub use calls::{advance, collect, post, relinquish, settle};

@@ -1,5 +1,7 @@
 // Plays one list of calls through `run` on several benches, and prints the answers, the tally and the cells: over a
 // total under both rules, over a pair of operations, and over a combining register.
+#![tactic(auto)]
+
 mod calls;
 mod shown;
 

@@ -1,4 +1,6 @@
 // The reader of scripts: from a script's bytes to the bench of its first line and the calls of the others.
+#![tactic(auto)]
+
 mod calls;
 mod faults;
 mod fields;

@@ -1,4 +1,6 @@
 // Worked cases of the bench and its parts, proved of the definitions that the calls keep.
+#![tactic(auto)]
+
 ghost use Rattle.std.specs.Prelude.{◌≡◌};
 ghost use Rattle.sheet.specs.Sheet.{SheetStands};
 

@@ -1,5 +1,7 @@
 // How fast a bench is: plays many contended calls as one run, and call by call.
 // Without an argument it plays a few and prints what came of them; with a number of calls it also measures.
+#![tactic(auto)]
+
 mod calls;
 mod plays;
 

@@ -1,4 +1,6 @@
 // The tables of a bench: lines, directory entries, registers and the ledger, and when they are legal.
+#![tactic(auto)]
+
 mod entry;
 mod ledger;
 mod line;

@@ -1,7 +1,7 @@
 -- An order falls by how long ago its ways were used, so that the oldest way is the one used the longest ago.
 use Rattle.std.proofs.Common.{◌≡◌, ℕ, ◌+◌, ◌<◌, ◌≤◌, true, false, cond, ◌&&◌, eqb, List, [], ◌∷◌, ◌++◌, length, set, replicate, sym, refl, ap, ◌∙◌, subst, arith, rules}
 use Rattle.std.proofs.ByRecursion.{All-push, All-weaker}
-use Rattle.std.proofs.lemmas.List.{get_or-replicate, get_or_set_other, get_or-set_same, length-set}
+use Rattle.std.proofs.lemmas.List.{get_or-replicate, get_or-set_other, get_or-set_same, length-set}
 use Rattle.std.proofs.lemmas.Bool.{cond_both, cond-false, cond-true, eq-eqb, eqb-false, eqb-true, ne_eqb}
 use Rattle.std.specs.List.{AllByRecursion as All}
 use Rattle.victim.specs.Ages.{newest, times}
@@ -74,7 +74,7 @@ falling_touched y H party who way len h fall =
       | true ↦ cond_both (eqb who party) (way ∷ H) H (λ K. Falling (ago K) (order_of after party).ways)
           (λ e. let within : party < length y.orders = omega arith in
           rw (eqb-true who party e, get_or-set_same y.orders party (renewed (order_of y party) way) numbered within) (falling_newest H way (order_of y party).ways fall))
-          (λ e. rw (get_or_set_other y.orders who party (renewed (order_of y who) way) numbered (λ is. eqb-false who party e (sym is))) fall)
+          (λ e. rw (get_or-set_other y.orders who party (renewed (order_of y who) way) numbered (λ is. eqb-false who party e (sym is))) fall)
       | false ↦ fall
     ]
 

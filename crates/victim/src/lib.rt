@@ -1,4 +1,6 @@
 // Victim rules: which way of a party's cache is sent home when all are in use.
+#![tactic(auto)]
+
 ghost use Rattle.std.specs.Prelude.{◌≡◌, ℕ, ◌<◌};
 ghost use Rattle.victim.specs.Rules.{Rule, Servable, Touchable};
 

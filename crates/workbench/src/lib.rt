@@ -1,4 +1,6 @@
 // Tables of a bench that own their memory, for programs that have none to lend.
+#![tactic(auto)]
+
 ghost use Rattle.std.specs.Prelude.{◌≡◌, ◌*◌, length, replicate, IfOk};
 
 use party_set::PartySet;

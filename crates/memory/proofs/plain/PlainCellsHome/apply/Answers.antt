@@ -20,6 +20,6 @@ returns-in-err-value g c =
 pub returns : goal.returns
 returns g c =
     let cells = counted (vec_items c.args.self.now.row) in
-    let read = sym c.load.ensures.value ∙ c.in-ok-value.was in
-    let acts = applied_loaded g.O.Operation.algebra cells c.args.place c.args.partial c.in-ok-value.value read in
+    let read = sym c.load.ensures.value ∙ c.in_ok-value.was in
+    let acts = applied_loaded g.O.Operation.algebra cells c.args.place c.args.partial c.in_ok-value.value read in
     search rules

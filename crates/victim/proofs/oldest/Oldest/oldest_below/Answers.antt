@@ -10,5 +10,5 @@ returns-then-servable c =
     let party = c.args.party in
     let ways = c.args.ways in
     let serves = c.if-servable.ensures in
-    let value : c.oldest-below.result ≡ oldest_of x party ways = search (rules, get_or_read) in
+    let value : c.oldest_below.result ≡ oldest_of x party ways = search (rules, get_or_read) in
     record { value = value; oldest = subst (IsAnswer x party ways) (sym value) (answers x party ways) }

@@ -3,8 +3,8 @@ use Rattle.victim.specs.Orders.{renewed}
 use Rattle.victim.proofs.Orders.{same_order, whole_renewed}
 use Rattle.victim.proofs.order.Order.touch.Goals as goal
 
-pub invariant-of-self : goal.invariant-of-self
-invariant-of-self c = search (rules, whole_renewed)
+pub invariant_of-self : goal.invariant_of-self
+invariant_of-self c = search (rules, whole_renewed)
 
 pub returns : goal.returns
 unfolding renewed
