@@ -4,8 +4,8 @@ use Rattle.memory.proofs.Places.{placed_within, placed_outside}
 use Rattle.memory.proofs.Rows.{length_counted, counted_set, beyond_set}
 use Rattle.memory.proofs.plain.PlainCellsHome.store.Goals as goal
 
-pub index-mut-requires : goal.index-mut-requires
-index-mut-requires g c = search (rules, length_counted)
+pub index_mut-requires : goal.index_mut-requires
+index_mut-requires g c = search (rules, length_counted)
 
 pub returns-then-place-cells : goal.returns-then-place-cells
 returns-then-place-cells g c = search (rules, placed_within, counted_set, beyond_set)
