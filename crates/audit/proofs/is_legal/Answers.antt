@@ -64,13 +64,13 @@ returns-then-admitted g c = elim c.lines-test.branch [
         λ t. right_legal _ _ _ _ c.requires.some_way _ was (c.if-not-requests_exist.ensures.0 refl) (c.directory_right.ensures.0 t),
         λ ok. c.directory_right.ensures.1 (legal_entries _ _ _ _ c.requires.some_way ok _ was),
       )
-  | then-lines-test+then-loop-way-test+Then-not-admit w ↦ absurd (both_ways _ w.admitted-is c.if-admitted.true)
+  | then-lines-test+then-loop-way-test+then-not-admit w ↦ absurd (both_ways _ w.admitted-is c.if-admitted.true)
 ]
 
 pub returns-else-admitted : goal.returns-else-admitted
 returns-else-admitted g c = elim c.lines-test.branch [
   | else-lines-test w ↦ absurd (both_ways _ c.if-admitted.false (w.admitted-is ∙ c.lines.invariant.0))
-  | then-lines-test+then-loop-way-test+Then-not-admit w ↦ (
+  | then-lines-test+then-loop-way-test+then-not-admit w ↦ (
     λ t. absurd (both_ways _ c.if-admitted.false t),
     λ ok. absurd (
         let l = get_or_read c.args.lines.now (c.lines.party * c.args.ways + w.loop-way.way) w.index-lines-party.result (omega (arith, mul-add-lt c.lines.party c.args.ways w.loop-way.way (length c.args.registers.now) (omega arith) (omega arith))) w.index-lines-party.is Invalid in

@@ -8,8 +8,8 @@ pub unreachable-requires : goal.unreachable-requires
 unreachable-requires g c =
     let vs = g.H.Home.meaning c.args.home.now in
     let i = c.loop-place.place in
-    let read = ap (λ l. loaded l i) (sym c.loop-place.invariant.0) ∙ sym c.load.ensures.value ∙ c.in-default.is in
-    omega (arith, outside_from_loaded vs i c.in-default.field-0 read)
+    let read = ap (λ l. loaded l i) (sym c.loop-place.invariant.0) ∙ sym c.load.ensures.value ∙ c.in_default.is in
+    omega (arith, outside_from_loaded vs i c.in_default.field-0 read)
 
 pub loop-place-preserved : goal.loop-place-preserved
 loop-place-preserved g c =

@@ -6,19 +6,19 @@ use Rattle.call_list.proofs.script.read_call.Goals.{in-Load, in-Store+in-ok-next
 
 pub returns : goal.returns
 returns g c =
-    let whole = c.split-whitespace-fields.ensures.rest in
-    let first = c.in-ok-next-field.ensures in
-    let second = c.in-ok-next-field-2.ensures in
-    let none = c.in-ok-end-of-fields.ensures in
+    let whole = c.split_whitespace-fields.ensures.rest in
+    let first = c.in_ok-next_field.ensures in
+    let second = c.in_ok-next_field-2.ensures in
+    let none = c.in_ok-end_of_fields.ensures in
     let value = g.O.Notation.valued in
     let partial = g.O.Notation.partialed in
-    let v = c.in-ok-verb.verb in
-    let named = c.in-ok-verb.ensures in
-    let i = c.in-ok-place.place in
-    let at = c.in-ok-place.ensures in
+    let v = c.in_ok-verb.verb in
+    let named = c.in_ok-verb.ensures in
+    let i = c.in_ok-place.place in
+    let at = c.in_ok-place.ensures in
     let said = c.match-verb.call in
     elim c.match-verb.branch [
       | in-Load way ↦ load_line whole first second none value partial v named i at said way.in-Load.is way.call-is (ap split_whitespace_rest way.fields-is)
-      | in-Store+in-ok-next-field-3+in-ok-value way ↦ store_line whole first second none value partial v named i at said way.in-Store.is way.call-is way.in-ok-next-field-3.ensures (ap split_whitespace_rest way.fields-is) way.in-ok-value.ensures
-      | in-Apply+in-ok-next-field-4+in-ok-partial way ↦ apply_line whole first second none value partial v named i at said way.in-Apply.is way.call-is way.in-ok-next-field-4.ensures (ap split_whitespace_rest way.fields-is) way.in-ok-partial.ensures
+      | in-Store+in-ok-next-field-3+in-ok-value way ↦ store_line whole first second none value partial v named i at said way.in-Store.is way.call-is way.in_ok-next-field-3.ensures (ap split_whitespace_rest way.fields-is) way.in_ok-value.ensures
+      | in-Apply+in-ok-next-field-4+in-ok-partial way ↦ apply_line whole first second none value partial v named i at said way.in-Apply.is way.call-is way.in_ok-next-field-4.ensures (ap split_whitespace_rest way.fields-is) way.in_ok-partial.ensures
     ]

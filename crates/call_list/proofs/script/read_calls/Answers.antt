@@ -8,20 +8,20 @@ pub loop-index-init : goal.loop-index-init
 loop-index-init g c =
     let whole = ap lines_rest c.enumerate-lines.ensures.source ∙ c.lines.ensures.rest in
     let head = headed_by g.O.Notation.valued g.O.Notation.partialed c.args.text.now c.enumerate-lines.result c.next-head.new.self c.next-head.result c.next-head.ensures.steps whole c.enumerate-lines.ensures.count (c.next-head.ensures.goes.on tt) in
-    rw (c.into-iter-index-iterator.ensures.into-iter-gives, c.new-calls.ensures.items) ((tt, tt, head.0), tt, head.1)
+    rw (c.into_iter-index-iterator.ensures.into_iter_gives, c.new-calls.ensures.items) ((tt, tt, head.0), tt, head.1)
 
-pub returns-in-err-numbered : goal.returns-in-err-numbered
-returns-in-err-numbered g c =
+pub returns-in_err-numbered : goal.returns-in_err-numbered
+returns-in_err-numbered g c =
     let step = c.in-Some.ensures.steps in
-    let p = err_from_is_err_and c.from-residual.result c.from-residual.ensures.1 in
-    rw (p.1, p.2) (one_fault _ _ c.loop-index.invariant.2 _ _ step.0.0.0 step.0.0.2 c.in-err-numbered.field-0.0 (c.in-err-numbered.ensures ∙ ap (λ n. n + 1) step.1))
+    let p = err_from_is_err_and c.from_residual.result c.from_residual.ensures.1 in
+    rw (p.1, p.2) (one_fault _ _ c.loop-index.invariant.2 _ _ step.0.0.0 step.0.0.2 c.in_err-numbered.field-0.0 (c.in_err-numbered.ensures ∙ ap (λ n. n + 1) step.1))
 
 pub loop-index-preserved : goal.loop-index-preserved
 loop-index-preserved g c =
     let step = c.in-Some.ensures.steps in (
       (c.in-Some.ensures.goes.on tt).0,
       tt,
-      one_more _ _ c.loop-index.invariant.2 _ _ step.0.0.0 step.0.0.2 _ _ _ c.in-ok-numbered.ensures step.2 c.in-ok-push.ensures.items,
+      one_more _ _ c.loop-index.invariant.2 _ _ step.0.0.0 step.0.0.2 _ _ _ c.in_ok-numbered.ensures step.2 c.in_ok-push.ensures.items,
     )
 
 pub returns : goal.returns

@@ -5,7 +5,7 @@ use Rattle.call_list.proofs.script.read_head.Goals as goal
 
 pub returns : goal.returns
 returns c =
-    let p = c.in-ok-next-field-2.field-0.now in
+    let p = c.in_ok-next_field-2.field-0.now in
     let line = c.args.line.now in
-    let words = two_words c.split-whitespace-fields.ensures.rest c.in-ok-next-field.ensures c.in-ok-next-field-2.ensures c.in-ok-end-of-fields.ensures refl in
-    (p, subst (λ w. Words line (w ∷ p ∷ [])) c.in-ok-kind.ensures words, c.in-ok-cells.ensures)
+    let words = two_words c.split_whitespace-fields.ensures.rest c.in_ok-next_field.ensures c.in_ok-next_field-2.ensures c.in_ok-end_of_fields.ensures refl in
+    (p, subst (λ w. Words line (w ∷ p ∷ [])) c.in_ok-kind.ensures words, c.in_ok-cells.ensures)

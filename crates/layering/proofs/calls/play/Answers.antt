@@ -10,7 +10,7 @@ loop-call-preserved g c =
     let vs = g.H.Home.meaning c.loop-call.home in
     let x = c.call-item.result in
     let h : i < length calls = omega arith in (
-      one_more_answer o calls i vs x h c.call-item.is _ c.perform.ensures.after _ _ _ _ c.perform.ensures.value c.push-reserved.ensures.items c.loop-call.invariant.0,
+      one_more_answer o calls i vs x h c.call-item.is _ c.perform.ensures.after _ _ _ _ c.perform.ensures.value c.push_reserved.ensures.items c.loop-call.invariant.0,
       one_more_call o calls i vs x h c.call-item.is _ c.perform.ensures.after _ c.loop-call.invariant.1,
       omega arith,
       omega arith,
