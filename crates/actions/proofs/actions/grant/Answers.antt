@@ -17,7 +17,7 @@ returns-in-Err g c =
     let f = offered_err (granted_line op c.args.request (lookup xs (target c.args.request))) c.in-Err.refusal c.in-Err.ensures.value in
     let e = ap (λ (a : ℕ). granted_line op c.args.request (lookup xs a)) (sym c.requires.asked) ∙ f.0 in
     let t = ap (λ u. granting k u s c.args.cell c.args.served c.args.request c.args.line) e in
-    let h = c.new-line.ensures.home in
+    let h = c.new_line.ensures.home in
     record { answer = ap Refused f.1 ∙ sym (ap (λ z. z.1) t); state = same_state refl refl refl refl refl h ∙ sym (ap (λ z. z.0) t) }
 
 pub returns-in-Ok : goal.returns-in-Ok
@@ -29,5 +29,5 @@ returns-in-Ok g c =
     let f = offered_ok (granted_line op c.args.request (lookup xs (target c.args.request))) c.in-Ok.new c.in-Ok.ensures.value in
     let e = ap (λ (a : ℕ). granted_line op c.args.request (lookup xs a)) (sym c.requires.asked) ∙ f in
     let t = ap (λ u. granting k u s c.args.cell c.args.served c.args.request c.args.line) e in
-    let h = c.new-line.ensures.home in
-    record { answer = sym (ap (λ z. z.1) t); state = same_state refl c.add-holder.ensures (c.set-register.ensures ∙ ap (λ v. set c.args.registers.now c.args.served (Answered v)) c.answer-to.ensures) refl c.touch.ensures h ∙ sym (ap (λ z. z.0) t) }
+    let h = c.new_line.ensures.home in
+    record { answer = sym (ap (λ z. z.1) t); state = same_state refl c.add_holder.ensures (c.set_register.ensures ∙ ap (λ v. set c.args.registers.now c.args.served (Answered v)) c.answer_to.ensures) refl c.touch.ensures h ∙ sym (ap (λ z. z.0) t) }

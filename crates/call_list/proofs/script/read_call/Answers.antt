@@ -2,7 +2,7 @@ use Rattle.std.proofs.Common.{ap}
 use Rattle.std.specs.Str.Iter.{split_whitespace_rest}
 use Rattle.call_list.proofs.Lines.{load_line, store_line, apply_line}
 use Rattle.call_list.proofs.script.read_call.Goals as goal
-use Rattle.call_list.proofs.script.read_call.Goals.{in-Load, in-Store+in-ok-next-field-3+in-ok-value, in-Apply+in-ok-next-field-4+in-ok-partial}
+use Rattle.call_list.proofs.script.read_call.Goals.{in-Load, in-Store+in_ok-next_field-in-Store+in_ok-value-in-Store, in-Apply+in_ok-next_field-in-Apply+in_ok-partial-in-Apply}
 
 pub returns : goal.returns
 returns g c =
@@ -19,6 +19,6 @@ returns g c =
     let said = c.match-verb.call in
     elim c.match-verb.branch [
       | in-Load way ↦ load_line whole first second none value partial v named i at said way.in-Load.is way.call-is (ap split_whitespace_rest way.fields-is)
-      | in-Store+in-ok-next-field-3+in-ok-value way ↦ store_line whole first second none value partial v named i at said way.in-Store.is way.call-is way.in_ok-next-field-3.ensures (ap split_whitespace_rest way.fields-is) way.in_ok-value.ensures
-      | in-Apply+in-ok-next-field-4+in-ok-partial way ↦ apply_line whole first second none value partial v named i at said way.in-Apply.is way.call-is way.in_ok-next-field-4.ensures (ap split_whitespace_rest way.fields-is) way.in_ok-partial.ensures
+      | in-Store+in_ok-next_field-in-Store+in_ok-value-in-Store way ↦ store_line whole first second none value partial v named i at said way.in-Store.is way.call-is way.in_ok-next_field-in-Store.ensures (ap split_whitespace_rest way.fields-is) way.in_ok-value-in-Store.ensures
+      | in-Apply+in_ok-next_field-in-Apply+in_ok-partial-in-Apply way ↦ apply_line whole first second none value partial v named i at said way.in-Apply.is way.call-is way.in_ok-next_field-in-Apply.ensures (ap split_whitespace_rest way.fields-is) way.in_ok-partial-in-Apply.ensures
     ]
