@@ -1,5 +1,5 @@
 -- One line more, and the end of the lines
-use Rattle.std.proofs.Common.{◌≡◌, ℕ, ◌+◌, ◌^◌, ◌<◌, List, [], ◌∷◌, ◌++◌, length, drop, IfSome, Some, None, Option, Result, sym, refl, ap, ◌∙◌, subst, inl, inr, arith, Bor}
+use Rattle.std.proofs.Common.{◌≡◌, ℕ, ◌+◌, ◌^◌, ◌<◌, List, [], ◌∷◌, ◌++◌, length, drop, OnSome, Some, None, Option, Result, sym, refl, ap, ◌∙◌, subst, inl, inr, arith, Bor}
 use Rattle.std.specs.declared.iter.Enumerate.{Enumerate}
 use Rattle.std.specs.declared.str.Lines.{Lines}
 use Rattle.std.specs.Str.Lines.{IsFirstLine}
@@ -37,19 +37,15 @@ module _ {V P : Type 0} (value : List ℕ → Result V Misread → Type 0) (part
     pub headed : length seen ≡ 0 → length rest ≡ 0
     pub said : CallLines value partial (drop 1 seen) calls
 
-  -- the numbers of the lines to come fit
-  abbrev Fits : Enumerate Lines → Type 0
-  Fits s = enumerate_count s + length (lines_rest (enumerate_source s)) < 2 ^ 64
-
-  -- the first line is taken, if there is one
-  pub headed_by : (text : List ℕ) (s t : Enumerate Lines) (r : Option (ℕ × Bor (List ℕ))) → enumerate_steps lines_steps s r t → lines_rest (enumerate_source s) ≡ text → enumerate_count s ≡ 0 → IfSome r (λ _. (Unit {0} × Unit {0} × Fits t) × Unit {0} × (length (lines_rest (enumerate_source t)) < length (lines_rest (enumerate_source s)))) → Fits t × Sofar text (lines_rest (enumerate_source t)) (enumerate_count t) []
-  headed_by text s t None step whole zero goes =
+  -- the first line is taken, if there is one; C says that more lines may be asked for
+  pub headed_by : (E C : Type 0) (text : List ℕ) (s t : Enumerate Lines) (r : Option (ℕ × Bor (List ℕ))) → enumerate_steps lines_steps s r t → lines_rest (enumerate_source s) ≡ text → enumerate_count s ≡ 0 → OnSome r E → (E → C) → (enumerate_count t + length (lines_rest (enumerate_source t)) < 2 ^ 64 → C) → C × Sofar text (lines_rest (enumerate_source t)) (enumerate_count t) []
+  headed_by E C text s t None step whole zero goes next more =
       let same = ap lines_rest step.0.0.1 in
       let none : length (lines_rest (enumerate_source t)) ≡ 0 = ap length same ∙ step.0.0.0 in
-      (omega (arith, step.1), record { seen = []; begins = sym (same ∙ whole); counted = sym (step.1 ∙ zero); headed = λ _. none; said = tt })
-  headed_by text s t (Some p) step whole zero goes =
+      (more (omega (arith, step.1)), record { seen = []; begins = sym (same ∙ whole); counted = sym (step.1 ∙ zero); headed = λ _. none; said = tt })
+  headed_by E C text s t (Some p) step whole zero goes next more =
       let rest = lines_rest (enumerate_source t) in (
-        goes.0.2,
+        next goes,
         record {
           seen = p.1.now ∷ [];
           begins = (rest, subst (λ l. 0 < length l) whole step.0.0.0, subst (λ l. IsFirstLine l p.1.now rest) whole step.0.0.2, refl);

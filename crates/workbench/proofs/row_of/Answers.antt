@@ -10,7 +10,7 @@ returns g c =
     let n = c.args.count in
     let x = c.args.value in
     let e : n - 0 ≡ n = omega arith in
-    c.in-ok-resize.ensures.items
+    c.in_ok-resize.ensures.items
     ∙ (λ i. take n (c.new-row.ensures.items i) ++ replicate (n - c.new-row.ensures.len i) x)
     ∙ ap (λ xs. xs ++ replicate (n - 0) x) (take_none n)
     ∙ ap (λ m. replicate m x) e

@@ -50,7 +50,7 @@ loop-call-preserved g c =
     let e = c.take-kept.ensures in
     let h : i < length calls = omega arith in (
       turn_state k calls i x now next (final k s calls) h c.call-item.is e.state inv.0,
-      turn_answers k calls i x now next c.take-kept.result.1 (vec_items c.loop-call.answers) (vec_items c.push-reserved.new.self) (answered k s calls) h c.call-item.is e.state e.answer c.push-reserved.ensures.items inv.1,
+      turn_answers k calls i x now next c.take-kept.result.1 (vec_items c.loop-call.answers) (vec_items c.push_reserved.new.self) (answered k s calls) h c.call-item.is e.state e.answer c.push_reserved.ensures.items inv.1,
       subst (Tabled k) (sym e.state) (taken_keeps k (sound op rule ways s (lawful g.met.O.Operation) g.met.R.Victim.within) (λ s b. Tabled k s) (tabled_closed k) now (at_making now.home) inv.2 x),
       e.held,
       omega (arith, inv.4),

@@ -23,17 +23,17 @@ returns-in-Err g c =
     let k = bench op rule ways s in
     (failed (make_refusal k s) c.in-Err.refusal c.in-Err.ensures, refl)
 
-pub returns-in-default-with-capacity : goal.returns-in-default-with-capacity
-returns-in-default-with-capacity g c =
+pub returns-in_default-with_capacity : goal.returns-in_default-with_capacity
+returns-in_default-with_capacity g c =
     let op = g.O.Operation.algebra in
     let rule = g.R.Victim.rule in
     let ways = c.args.ways in
     let s = state c.args.lines.now c.args.directory.now c.args.registers.now c.args.ledger.now c.args.rule.now (g.H.Home.meaning c.args.home.now) in
     let k = bench op rule ways s in
-    (passed (make_refusal k s) c.in-default.ensures, refl)
+    (passed (make_refusal k s) c.in_default.ensures, refl)
 
-pub play-all-requires : goal.play-all-requires
-play-all-requires g c =
+pub play_all-requires : goal.play_all-requires
+play_all-requires g c =
     let op = g.O.Operation.algebra in
     let rule = g.R.Victim.rule in
     let ways = c.args.ways in
@@ -62,11 +62,11 @@ returns-in-Ok-make g c =
     let ok = sym e.answer in
     let tabled = (made_inv k fine s ok).tabled in
     let calls = c.args.calls.now in
-    let f = c.play-all.ensures in
+    let f = c.play_all.ensures in
     -- the bench that was made is the one that the tables were lent for
     let same = ap (bench op rule ways) e.state ∙ sized_same k (made k s) tabled in
     let said = f.answers ∙ (λ i. answers_of (events (same i) (e.state i) calls)) in
     let end = f.state ∙ (λ i. final (same i) (e.state i) calls) in
     let law = whole k fine s ok calls in
     let shown = subst (λ es. LawsHold k s.home es (final k (made k s) calls)) (sym (ap (together calls) said ∙ together_events k (made k s) calls)) law in
-    record { accepted = ok; answers = said; state = end; laws = subst (LawsHold k s.home (together calls (vec_items c.play-all.result.answers))) (sym end) shown; ticket = f.ticket }
+    record { accepted = ok; answers = said; state = end; laws = subst (LawsHold k s.home (together calls (vec_items c.play_all.result.answers))) (sym end) shown; ticket = f.ticket }

@@ -25,6 +25,6 @@ returns-in-Err g c =
     let why = refused_some k s after n (settle_refusal k s) e in
     let still = refused_still k s after n (settle_refusal k s) e in
     record {
-      answer = c.give-up.ensures.answer ∙ ap (λ (z : State _ _ _). Abandoned n (owed z.lines)) still ∙ sym (ap (λ x. ending x s) why);
-      state = ap (λ g. state after.lines after.directory after.registers g after.rule after.home) c.give-up.ensures.ledger ∙ ap (close k) still ∙ sym (ap (λ x. close k (settle_if k x s).0) why);
+      answer = c.give_up.ensures.answer ∙ ap (λ (z : State _ _ _). Abandoned n (owed z.lines)) still ∙ sym (ap (λ x. ending x s) why);
+      state = ap (λ g. state after.lines after.directory after.registers g after.rule after.home) c.give_up.ensures.ledger ∙ ap (close k) still ∙ sym (ap (λ x. close k (settle_if k x s).0) why);
     }

@@ -14,47 +14,47 @@ use Rattle.moves.proofs.Aptness.{low, own_sendable}
 use Rattle.moves.proofs.Calls.{passed, failed, yield_rest, yield_refused, yield_passed, yield_facts, stays_legal}
 use Rattle.moves.proofs.relinquish.relinquish.Goals as goal
 
-pub returns-in-err-yield-checks : goal.returns-in-err-yield-checks
-returns-in-err-yield-checks g c =
+pub returns-in_err-yield_checks : goal.returns-in_err-yield_checks
+returns-in_err-yield_checks g c =
     let op = g.O.Operation.algebra in
     let rule = g.R.Victim.rule in
     let s = state c.args.lines.now c.args.directory.now c.args.registers.now c.args.ledger.now c.args.rule.now (g.H.Home.meaning c.args.home.now) in
-    let p = err_from_is_err_and c.from-residual.result c.from-residual.ensures.1 in
-    let n = c.in-err-yield-checks.field-0.0 in
-    let st = yield_refused op rule c.args.ways s c.requires.sizes c.requires.legal c.args.party c.args.cell n (failed (yield_rest op rule c.args.ways s c.requires.sizes c.requires.legal c.args.party c.args.cell) n c.in-err-yield-checks.ensures) in
+    let p = err_from_is_err_and c.from_residual.result c.from_residual.ensures.1 in
+    let n = c.in_err-yield_checks.field-0.0 in
+    let st = yield_refused op rule c.args.ways s c.requires.sizes c.requires.legal c.args.party c.args.cell n (failed (yield_rest op rule c.args.ways s c.requires.sizes c.requires.legal c.args.party c.args.cell) n c.in_err-yield_checks.ensures) in
     record { answer = ap yielded p.1 ∙ ap Refused p.2 ∙ sym (ap (λ z. z.1) st); state = sym (ap (λ z. z.0) st); legal = c.requires.legal }
 
-pub overflow-mul-party : goal.overflow-mul-party
-overflow-mul-party g c =
+pub overflow_mul-party : goal.overflow_mul-party
+overflow_mul-party g c =
     let op = g.O.Operation.algebra in
     let rule = g.R.Victim.rule in
     let s = state c.args.lines.now c.args.directory.now c.args.registers.now c.args.ledger.now c.args.rule.now (g.H.Home.meaning c.args.home.now) in
-    let f = yield_facts op rule c.args.ways s c.requires.sizes c.requires.legal c.args.party c.args.cell (passed (yield_rest op rule c.args.ways s c.requires.sizes c.requires.legal c.args.party c.args.cell) c.in-ok-yield-checks.ensures) in
+    let f = yield_facts op rule c.args.ways s c.requires.sizes c.requires.legal c.args.party c.args.cell (passed (yield_rest op rule c.args.ways s c.requires.sizes c.requires.legal c.args.party c.args.cell) c.in_ok-yield_checks.ensures) in
     omega (arith, (ways_within g.O.Operation.algebra c.args.ways c.args.lines.now c.args.directory.now c.args.registers.now c.requires.sizes c.args.party f.1).1)
 
-pub find-line-requires : goal.find-line-requires
-find-line-requires g c =
+pub find_line-requires : goal.find_line-requires
+find_line-requires g c =
     let op = g.O.Operation.algebra in
     let rule = g.R.Victim.rule in
     let s = state c.args.lines.now c.args.directory.now c.args.registers.now c.args.ledger.now c.args.rule.now (g.H.Home.meaning c.args.home.now) in
-    let f = yield_facts op rule c.args.ways s c.requires.sizes c.requires.legal c.args.party c.args.cell (passed (yield_rest op rule c.args.ways s c.requires.sizes c.requires.legal c.args.party c.args.cell) c.in-ok-yield-checks.ensures) in
+    let f = yield_facts op rule c.args.ways s c.requires.sizes c.requires.legal c.args.party c.args.cell (passed (yield_rest op rule c.args.ways s c.requires.sizes c.requires.legal c.args.party c.args.cell) c.in_ok-yield_checks.ensures) in
     (ways_within g.O.Operation.algebra c.args.ways c.args.lines.now c.args.directory.now c.args.registers.now c.requires.sizes c.args.party f.1).0
 
-pub send-home-requires : goal.send-home-requires
-send-home-requires g c =
+pub send_home-requires : goal.send_home-requires
+send_home-requires g c =
     let op = g.O.Operation.algebra in
     let rule = g.R.Victim.rule in
     let s = state c.args.lines.now c.args.directory.now c.args.registers.now c.args.ledger.now c.args.rule.now (g.H.Home.meaning c.args.home.now) in
-    let f = yield_facts op rule c.args.ways s c.requires.sizes c.requires.legal c.args.party c.args.cell (passed (yield_rest op rule c.args.ways s c.requires.sizes c.requires.legal c.args.party c.args.cell) c.in-ok-yield-checks.ensures) in
+    let f = yield_facts op rule c.args.ways s c.requires.sizes c.requires.legal c.args.party c.args.cell (passed (yield_rest op rule c.args.ways s c.requires.sizes c.requires.legal c.args.party c.args.cell) c.in_ok-yield_checks.ensures) in
     let y = own_sendable g.O.Operation.algebra c.args.ways c.args.lines.now c.args.directory.now c.args.registers.now c.requires.sizes c.requires.legal c.args.party c.args.cell c.in-Some.i f.1 (sym c.in-Some.ensures) in
     record { sizes = (y.place, (y.wide, y.party)); listed = y.cell }
 
-pub overflow-add-ledger : goal.overflow-add-ledger
-overflow-add-ledger g c =
+pub overflow_add-ledger : goal.overflow_add-ledger
+overflow_add-ledger g c =
     let op = g.O.Operation.algebra in
     let rule = g.R.Victim.rule in
     let s = state c.args.lines.now c.args.directory.now c.args.registers.now c.args.ledger.now c.args.rule.now (g.H.Home.meaning c.args.home.now) in
-    let f = yield_facts op rule c.args.ways s c.requires.sizes c.requires.legal c.args.party c.args.cell (passed (yield_rest op rule c.args.ways s c.requires.sizes c.requires.legal c.args.party c.args.cell) c.in-ok-yield-checks.ensures) in
+    let f = yield_facts op rule c.args.ways s c.requires.sizes c.requires.legal c.args.party c.args.cell (passed (yield_rest op rule c.args.ways s c.requires.sizes c.requires.legal c.args.party c.args.cell) c.in_ok-yield_checks.ensures) in
     omega (arith, (low c.args.ledger.now f.0).yields)
 
 pub returns-in-Some : goal.returns-in-Some
@@ -63,8 +63,8 @@ returns-in-Some g c =
     let rule = g.R.Victim.rule in
     let s = state c.args.lines.now c.args.directory.now c.args.registers.now c.args.ledger.now c.args.rule.now (g.H.Home.meaning c.args.home.now) in
     let k = bench op rule c.args.ways s in
-    let st = yield_passed op rule c.args.ways s c.requires.sizes c.requires.legal c.args.party c.args.cell (passed (yield_rest op rule c.args.ways s c.requires.sizes c.requires.legal c.args.party c.args.cell) c.in-ok-yield-checks.ensures) ∙ ap (λ x. yield_by k x s) (sym c.in-Some.ensures) in
-    let end = same_state c.send-home.ensures.lines c.send-home.ensures.directory refl refl refl c.send-home.ensures.home ∙ sym (ap (λ z. z.0) st) in
+    let st = yield_passed op rule c.args.ways s c.requires.sizes c.requires.legal c.args.party c.args.cell (passed (yield_rest op rule c.args.ways s c.requires.sizes c.requires.legal c.args.party c.args.cell) c.in_ok-yield_checks.ensures) ∙ ap (λ x. yield_by k x s) (sym c.in-Some.ensures) in
+    let end = same_state c.send_home.ensures.lines c.send_home.ensures.directory refl refl refl c.send_home.ensures.home ∙ sym (ap (λ z. z.0) st) in
     record { answer = sym (ap (λ z. z.1) st); state = end; legal = subst (λ (z : State _ _ _). Legal c.args.ways z.lines z.directory z.registers) (sym end) (stays_legal op rule c.args.ways s c.requires.sizes c.requires.legal (sound op rule c.args.ways s (lawful g.met.O.Operation) g.met.R.Victim.within) (Yield c.args.party c.args.cell)) }
 
 pub returns-in-None : goal.returns-in-None
@@ -73,5 +73,5 @@ returns-in-None g c =
     let rule = g.R.Victim.rule in
     let s = state c.args.lines.now c.args.directory.now c.args.registers.now c.args.ledger.now c.args.rule.now (g.H.Home.meaning c.args.home.now) in
     let k = bench op rule c.args.ways s in
-    let st = yield_passed op rule c.args.ways s c.requires.sizes c.requires.legal c.args.party c.args.cell (passed (yield_rest op rule c.args.ways s c.requires.sizes c.requires.legal c.args.party c.args.cell) c.in-ok-yield-checks.ensures) ∙ ap (λ x. yield_by k x s) (sym c.in-None.ensures) in
+    let st = yield_passed op rule c.args.ways s c.requires.sizes c.requires.legal c.args.party c.args.cell (passed (yield_rest op rule c.args.ways s c.requires.sizes c.requires.legal c.args.party c.args.cell) c.in_ok-yield_checks.ensures) ∙ ap (λ x. yield_by k x s) (sym c.in-None.ensures) in
     record { answer = sym (ap (λ z. z.1) st); state = sym (ap (λ z. z.0) st); legal = c.requires.legal }

@@ -9,17 +9,17 @@ use Rattle.protocol.proofs.Audited.{audit_refused}
 use Rattle.protocol.proofs.Unmoved.{unmoved, yields}
 use Rattle.protocol.proofs.calls.relinquish.Goals as goal
 
-pub returns-in-err-audit : goal.returns-in-err-audit
-returns-in-err-audit g c =
+pub returns-in_err-audit : goal.returns-in_err-audit
+returns-in_err-audit g c =
     let s = state c.args.lines.now c.args.directory.now c.args.registers.now c.args.ledger.now c.args.rule.now (g.H.Home.meaning c.args.home.now) in
-    let p = err_from_is_err_and c.from-residual.result c.from-residual.ensures.1 in
-    let n = c.in-err-audit.field-0.0 in
-    let st = audit_refused g.O.Operation.algebra g.R.Victim.rule c.args.ways s (Yield c.args.party c.args.cell) n c.in-err-audit.ensures.value in
+    let p = err_from_is_err_and c.from_residual.result c.from_residual.ensures.1 in
+    let n = c.in_err-audit.field-0.0 in
+    let st = audit_refused g.O.Operation.algebra g.R.Victim.rule c.args.ways s (Yield c.args.party c.args.cell) n c.in_err-audit.ensures.value in
     record { step = ap (λ z. (s, yielded z)) p.1 ∙ ap (λ z. (s, Refused z)) p.2 ∙ sym st; refused = λ e. refl; legal = λ e. not_ok (ap is_ok p.1) e }
 
 pub relinquish-requires : goal.relinquish-requires
 relinquish-requires g c =
-    let f = c.in-ok-audit.ensures.legal.0 refl in
+    let f = c.in_ok-audit.ensures.legal.0 refl in
     record { sizes = f.0; legal = f.1 }
 
 pub returns : goal.returns

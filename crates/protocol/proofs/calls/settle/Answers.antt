@@ -6,8 +6,8 @@ use Rattle.protocol.proofs.Audited.{audit_refused}
 use Rattle.protocol.proofs.Unmoved.{unmoved, settles}
 use Rattle.protocol.proofs.calls.settle.Goals as goal
 
-pub settle-legal-requires : goal.settle-legal-requires
-settle-legal-requires g c =
+pub settle_legal-requires : goal.settle_legal-requires
+settle_legal-requires g c =
     let f = c.in-Ok.ensures.legal.0 refl in
     record { sizes = f.0; legal = f.1 }
 
@@ -15,8 +15,8 @@ pub returns-in-Ok : goal.returns-in-Ok
 returns-in-Ok g c =
     let s = state c.args.lines.now c.args.directory.now c.args.registers.now c.args.ledger.now c.args.rule.now (g.H.Home.meaning c.args.home.now) in
     let k = bench g.O.Operation.algebra g.R.Victim.rule c.args.ways s in
-    let f = c.settle-legal.ensures in
-    record { step = λ i. (f.state i, f.answer i); refused = λ e. unmoved k s Settle f.state f.answer (settles g.row.O-Value.Denot c.settle-legal.result ∙ e); legal = λ e. f.legal }
+    let f = c.settle_legal.ensures in
+    record { step = λ i. (f.state i, f.answer i); refused = λ e. unmoved k s Settle f.state f.answer (settles g.row.O-Value.Denot c.settle_legal.result ∙ e); legal = λ e. f.legal }
 
 pub returns-in-Err : goal.returns-in-Err
 returns-in-Err g c =

@@ -19,8 +19,8 @@ loop-i-init g c =
     let e : n - 0 ≡ n = omega arith in
     (ap (λ m. all_sent k 0 m s₀) e, tabled_of op rule ways s₀ c.requires.sizes c.requires.legal, omega arith)
 
-pub send-one-requires : goal.send-one-requires
-send-one-requires g c =
+pub send_one-requires : goal.send_one-requires
+send_one-requires g c =
     let op = g.O.Operation.algebra in
     let rule = g.R.Victim.rule in
     let ways = c.args.ways in
@@ -45,7 +45,7 @@ loop-i-preserved g c =
     let s = state c.loop-i.lines c.loop-i.directory c.args.registers.now c.loop-i.ledger c.args.rule.now (g.H.Home.meaning c.loop-i.home) in
     let all = (limits_of op rule ways s₀ c.requires.sizes).1 in
     let h : i < n = omega (arith, all) in
-    let e = c.send-one.ensures ∙ emptied_alike k (bench op rule ways s) s i (is_held (line s i)) refl refl in
+    let e = c.send_one.ensures ∙ emptied_alike k (bench op rule ways s) s i (is_held (line s i)) refl refl in
     let m = emptied_yields k s i (is_held (line s i)) in
     let y = ap (λ z. z.ledger.yields) e in (
       ap (all_sent k (i + 1) (n - (i + 1))) e ∙ sym (next_sent k i n s h) ∙ c.loop-i.invariant.0,
