@@ -5,7 +5,7 @@ use Rattle.call_report.proofs.reporting.reached_lines.Goals as goal
 
 pub returns : goal.returns
 returns c =
-    let plain = c.as-str.ensures.value ∙ c.in-ok-plain.ensures in
-    let one = c.as-str-2.ensures.value ∙ c.in-ok-one.ensures in
-    let two = c.as-str-3.ensures.value ∙ c.in-ok-two.ensures in
+    let plain = c.as_str.ensures.value ∙ c.in_ok-plain.ensures in
+    let one = c.as_str-2.ensures.value ∙ c.in_ok-one.ensures in
+    let two = c.as_str-3.ensures.value ∙ c.in_ok-two.ensures in
     IfOk-weaker c.joined.result _ _ (λ s is. is ∙ joined_same plain one two) c.joined.ensures

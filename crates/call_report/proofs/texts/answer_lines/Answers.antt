@@ -6,7 +6,7 @@ use Rattle.call_report.proofs.texts.answer_lines.Goals as goal
 pub loop-before-preserved : goal.loop-before-preserved
 loop-before-preserved g c =
     let out = string_bytes c.loop-before.lines in
-    let grown = c.in-ok-push-str.ensures.bytes ∙ ap (λ l. out ++ l) (c.as-str.ensures.value ∙ c.in-ok-answer-line.ensures) in
+    let grown = c.in_ok-push_str.ensures.bytes ∙ ap (λ l. out ++ l) (c.as_str.ensures.value ∙ c.in_ok-answer_line.ensures) in
     one_more (answer_line g.O.Notation.shown) c.args.answers.now c.loop-before.before out _ c.loop-before.invariant c.index-answers-before.result _ c.loop-before-test.true c.index-answers-before.is grown
 
 pub returns : goal.returns

@@ -6,7 +6,7 @@ use Rattle.call_report.proofs.texts.cell_lines.Goals as goal
 pub loop-place-preserved : goal.loop-place-preserved
 loop-place-preserved g c =
     let out = string_bytes c.loop-place.lines in
-    let grown = c.in-ok-push-str.ensures.bytes ∙ ap (λ l. out ++ l) (c.as-str.ensures.value ∙ c.in-ok-cell-line.ensures) in
+    let grown = c.in_ok-push_str.ensures.bytes ∙ ap (λ l. out ++ l) (c.as_str.ensures.value ∙ c.in_ok-cell_line.ensures) in
     one_more (cell_line g.O.Notation.shown) c.args.values.now c.loop-place.place out _ c.loop-place.invariant c.index-values-place.result _ c.loop-place-test.true c.index-values-place.is grown
 
 pub returns : goal.returns

@@ -8,8 +8,8 @@ returns-then-script-eq0 g c = none_said g.O.Scripted.values g.O.Scripted.partial
 pub loop-rest-preserved : goal.loop-rest-preserved
 loop-rest-preserved g c =
     let old = c.loop-rest.invariant in
-    let cut = c.first-line-in-loop-rest.ensures in (
-      one_more _ _ cut.cut old.0 _ _ c.in-ok-call.ensures c.in-ok-push.ensures.items,
+    let cut = c.first_line-in-loop-rest.ensures in (
+      one_more _ _ cut.cut old.0 _ _ c.in_ok-call.ensures c.in_ok-push.ensures.items,
       omega (arith, old.1, cut.shorter),
     )
 
