@@ -1,5 +1,5 @@
 -- What a load says of the list that a home means
-use Rattle.std.proofs.Common.{◌≡◌, ℕ, zero, suc, List, [], ◌∷◌, Some, None, Ok, Err, Option, Result, sym, refl, ap, ◌∙◌, arith}
+use Rattle.std.proofs.Common.{◌≡◌, ℕ, zero, suc, List, [], ◌∷◌, Some, None, Ok, Err, Option, sym, refl, ap, arith}
 use Rattle.tables.specs.declared.refusal.Refusal.{Refusal as TableRefusal}
 use Rattle.tables.specs.declared.refusal.Refusal.TheVariants.{Place}
 use Rattle.operation.specs.Algebra.{Algebra}

@@ -7,7 +7,7 @@ use Rattle.tables.specs.declared.register.Register.{Register}
 use Rattle.tables.specs.declared.entry.Entry.{Entry}
 use Rattle.tables.specs.declared.refusal.Refusal.{Refusal}
 use Rattle.tables.specs.declared.refusal.Refusal.TheVariants.{Sizes, Illegal}
-use Rattle.tables.specs.Legal.{fits, legal, Legal}
+use Rattle.tables.specs.Legal.{fits, Legal}
 use Rattle.tables.proofs.Legality.{legal_decides}
 use Rattle.audit.specs.Audit.{audited}
 

@@ -6,7 +6,7 @@ use Rattle.tables.specs.declared.line.Line.TheVariants.{Invalid, Shared, UpdateO
 use Rattle.party_set.specs.declared.PartySet.{PartySet}
 use Rattle.tables.specs.declared.entry.Phase.{Phase}
 use Rattle.tables.specs.declared.entry.Phase.TheVariants as phase
-use Rattle.party_set.specs.Sets.{has, nobody, is_nobody, with}
+use Rattle.party_set.specs.Sets.{has, nobody, with}
 use Rattle.tables.specs.Lines.{is_held, cell_of, is_of}
 use Rattle.tables.specs.Legal.{phase_code}
 use Rattle.tables.proofs.Tests.{unless}

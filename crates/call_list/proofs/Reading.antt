@@ -37,8 +37,12 @@ module _ {V P : Type 0} (value : List ℕ → Result V Misread → Type 0) (part
     pub headed : length seen ≡ 0 → length rest ≡ 0
     pub said : CallLines value partial (drop 1 seen) calls
 
-  -- the first line is taken, if there is one; C says that more lines may be asked for
-  pub headed_by : (E C : Type 0) (text : List ℕ) (s t : Enumerate Lines) (r : Option (ℕ × Bor (List ℕ))) → enumerate_steps lines_steps s r t → lines_rest (enumerate_source s) ≡ text → enumerate_count s ≡ 0 → OnSome r E → (E → C) → (enumerate_count t + length (lines_rest (enumerate_source t)) < 2 ^ 64 → C) → C × Sofar text (lines_rest (enumerate_source t)) (enumerate_count t) []
+  -- the numbers of the lines to come fit
+  abbrev Fits : Enumerate Lines → Type 0
+  Fits s = enumerate_count s + length (lines_rest (enumerate_source s)) < 2 ^ 64
+
+  -- the first line is taken, if there is one; C says that more lines may be asked for, and holds where their numbers fit
+  pub headed_by : (E C : Type 0) (text : List ℕ) (s t : Enumerate Lines) (r : Option (ℕ × Bor (List ℕ))) → enumerate_steps lines_steps s r t → lines_rest (enumerate_source s) ≡ text → enumerate_count s ≡ 0 → OnSome r E → (E → C) → (Fits t → C) → C × Sofar text (lines_rest (enumerate_source t)) (enumerate_count t) []
   headed_by E C text s t None step whole zero goes next more =
       let same = ap lines_rest step.0.0.1 in
       let none : length (lines_rest (enumerate_source t)) ≡ 0 = ap length same ∙ step.0.0.0 in

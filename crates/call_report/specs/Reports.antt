@@ -5,7 +5,7 @@
 --   verdict_line   whether the piles agree
 --   layout        how the parts of a report stand
 --   report_text  the whole report
-use Rattle.std.specs.Prelude.{◌≡◌, ℕ, Bool, true, cond, List, [], ◌∷◌, ◌++◌, replicate, string_bytes, codes, decimal}
+use Rattle.std.specs.Prelude.{◌≡◌, ℕ, Bool, true, cond, List, ◌++◌, replicate, string_bytes, codes, decimal}
 use Rattle.operation.specs.Algebra.{Algebra}
 use Rattle.memory.specs.Row.{counted}
 use Rattle.layering.specs.declared.Call.{Call}

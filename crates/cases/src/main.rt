@@ -9,6 +9,7 @@ mod texts;
 
 use parts::{acting, combining, limits};
 use player::play_all;
+use std::process::ExitCode;
 
 fn run(rt: &HostRuntime) -> anyhow::Result<()> {
     play_all(rt)?;
@@ -21,10 +22,13 @@ fn run(rt: &HostRuntime) -> anyhow::Result<()> {
     Ok(())
 }
 
-fn main(rt: HostRuntime) -> anyhow::Result<()> {
-    let done = run(&rt);
-    if let Err(stop) = &done {
-        let _ = eprintln!(rt; "cases: {stop}");
+// A fault is told in one line of its own, so main does not return it: the runtime would print it once more.
+fn main(rt: HostRuntime) -> ExitCode {
+    match run(&rt) {
+        Ok(()) => ExitCode::SUCCESS,
+        Err(stop) => {
+            let _ = eprintln!(rt; "cases: {stop}");
+            ExitCode::FAILURE
+        }
     }
-    done
 }

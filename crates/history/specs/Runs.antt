@@ -11,7 +11,7 @@ use Rattle.victim.specs.Rules.{Rule}
 use Rattle.tables.specs.Ledgers.{is_open}
 use Rattle.model.specs.declared.call.Call.{Call}
 use Rattle.model.specs.declared.answer.Answer.{Answer}
-use Rattle.model.specs.Bench.{Bench, State, bench}
+use Rattle.model.specs.Bench.{State, bench}
 use Rattle.model.specs.Laws.{Event, LawsHold}
 use Rattle.model.specs.Steps.{events, final, made, make_refusal}
 use Rattle.settlement.specs.declared.ticket.Ticket.{Ticket}

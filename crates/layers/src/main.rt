@@ -8,6 +8,7 @@ use call_report::{MOST, report};
 use std::alloc::Global;
 use std::fs::File;
 use std::io::Read;
+use std::process::ExitCode;
 use std::{env, io};
 
 // Reads one byte more than is taken, so that a longer input shows.
@@ -34,10 +35,13 @@ fn run(rt: &HostRuntime) -> anyhow::Result<()> {
     Ok(())
 }
 
-fn main(rt: HostRuntime) -> anyhow::Result<()> {
-    let done = run(&rt);
-    if let Err(stop) = &done {
-        let _ = eprintln!(rt; "layers: {stop}");
+// A fault is told in one line of its own, so main does not return it: the runtime would print it once more.
+fn main(rt: HostRuntime) -> ExitCode {
+    match run(&rt) {
+        Ok(()) => ExitCode::SUCCESS,
+        Err(stop) => {
+            let _ = eprintln!(rt; "layers: {stop}");
+            ExitCode::FAILURE
+        }
     }
-    done
 }

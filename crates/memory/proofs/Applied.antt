@@ -1,5 +1,5 @@
 -- What a partial that has acted at a place leaves of the other words of a home.
-use Rattle.std.proofs.Common.{◌≡◌, ℕ, zero, suc, ◌≤◌, ◌≢◌, List, [], ◌∷◌, length, set, Ok, refl, ap, arith}
+use Rattle.std.proofs.Common.{◌≡◌, ℕ, zero, suc, ◌≢◌, List, [], ◌∷◌, set, Ok, refl, ap}
 use Rattle.operation.specs.Algebra.{Algebra, applied}
 use Rattle.memory.specs.Homes.{loaded, placed}
 

@@ -1,21 +1,18 @@
 -- What an advance decides on legal tables, and that performing it is the step
-use Rattle.std.proofs.Common.{◌≡◌, ℕ, zero, suc, ◌+◌, ◌-◌, ◌*◌, ◌/◌, ◌<◌, ◌≤◌, Bool, true, false, cond, not, ◌&&◌, eqb, ◌⊎◌, length, get_or, Some, None, Option, sym, refl, ap, ◌∙◌, subst, inl, inr, ⊎_elim, mul-le-mul_right, suc-mul, arith}
+use Rattle.std.proofs.Common.{◌≡◌, ℕ, suc, ◌+◌, ◌*◌, ◌/◌, ◌<◌, ◌≤◌, Bool, true, false, not, ◌&&◌, eqb, ◌⊎◌, Some, None, Option, sym, refl, ap, ◌∙◌, subst, inl, inr, ⊎_elim, mul-le-mul_right, suc-mul, arith}
 use Rattle.std.proofs.lemmas.Bool.{cases_Bool, cases_lt, eqb-true, not-true, not-false, both_ways, and_from}
 use Rattle.std.proofs.lemmas.List.{get_or_past}
-use Rattle.std.specs.Option.{option_map}
 use Rattle.tables.specs.declared.line.Line.{Line}
 use Rattle.tables.specs.declared.line.Line.TheVariants.{Invalid, Shared, UpdateOnly, Modified}
 use Rattle.tables.specs.declared.request.Request.{Request}
 use Rattle.tables.specs.declared.request.Request.TheVariants.{Read, Write, Update}
 use Rattle.tables.specs.declared.register.Register.{Register}
 use Rattle.tables.specs.declared.register.Register.TheVariants.{Empty, Waiting, Answered}
-use Rattle.tables.specs.declared.entry.Phase.{Phase}
-use Rattle.tables.specs.declared.entry.Phase.TheVariants as phase
 use Rattle.party_set.specs.Sets.{has, lowest}
 use Rattle.party_set.specs.Searches.{first}
-use Rattle.tables.specs.Lines.{target, is_held, cell_of, is_of, phase_of, hits, conflicts, clashes, waits_for}
-use Rattle.tables.proofs.Tests.{no, is_of_held, is_of_cell}
-use Rattle.party_set.proofs.Searches.{first_some, first_none, no_some, some_no, some_same}
+use Rattle.tables.specs.Lines.{target, is_held, is_of, phase_of, conflicts, clashes, waits_for}
+use Rattle.tables.proofs.Tests.{no}
+use Rattle.party_set.proofs.Searches.{first_some, first_none}
 use Rattle.party_set.proofs.Holders.{lowest_some, lowest_none}
 use Rattle.model.specs.declared.next.Next.{Next}
 use Rattle.model.specs.declared.next.Next.TheVariants as next
@@ -23,7 +20,7 @@ use Rattle.model.specs.Bench.{Bench, State, line, register, entry}
 use Rattle.model.specs.Steps.{conflict, vacant, own_line, whose, advance_for}
 use Rattle.model.specs.Decisions.{next_of_room, next_of_request, next_of_served, next_of_turn, performed}
 use Rattle.model.specs.Decisions as spec
-use Rattle.model.proofs.Basics.{Owns, one_owner, owner_below}
+use Rattle.model.proofs.Basics.{Owns, owner_below}
 use Rattle.model.proofs.Tabled.{Tabled}
 use Rattle.model.proofs.Kept.{whose_waits, conflicts_held}
 

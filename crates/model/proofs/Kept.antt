@@ -23,7 +23,7 @@ use Rattle.model.proofs.Tabled.{Tabled, Turned}
 use Rattle.model.proofs.TabledMoves.{tabled_clear, tabled_close, tabled_grant, tabled_hit, tabled_queue, tabled_send, tabled_turn}
 use Rattle.model.specs.Bench.{Bench, Sound, State, entry, granted_line, line, lookup, register, value_in}
 use Rattle.model.specs.Reference.{Reference, finish, finish_waiting, observed, outcome, strike, wait}
-use Rattle.model.specs.Steps.{advance_for, advance_if, advance_refusal, after_last, all_sent, clear, close, collect_by, collect_if, collect_refusal, conflict, emptied, evict_more, fit, grant, granting, hit, legal_here, made, own_hit, own_line, post_by, post_if, post_refusal, queue, recall_more, recalling, rooming, send, serving, settle_if, settle_refusal, sized, step, taken, turn_to, vacant, whose, yield_by, yield_if, yield_more, yield_refusal}
+use Rattle.model.specs.Steps.{advance_for, advance_if, advance_refusal, after_last, all_sent, clear, close, collect_by, collect_if, collect_refusal, conflict, emptied, evict_more, fit, grant, granting, hit, legal_here, own_hit, own_line, post_by, post_if, post_refusal, queue, recall_more, recalling, rooming, send, serving, settle_if, settle_refusal, sized, step, taken, turn_to, vacant, whose, yield_by, yield_if, yield_more, yield_refusal}
 use Rattle.model.specs.declared.answer.Answer.{Answer}
 use Rattle.model.specs.declared.call.Call.{Call}
 use Rattle.model.specs.declared.call.Call.TheVariants.{Advance, Collect, Post, Settle, Yield}

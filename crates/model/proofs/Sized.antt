@@ -1,5 +1,5 @@
 -- Legal tables of the right sizes, as callers of the steps know them
-use Rattle.std.proofs.Common.{◌≡◌, ℕ, ◌+◌, ◌*◌, ◌/◌, ◌<◌, ◌≤◌, true, ◌&&◌, leb, List, [], length, refl, mul-le-mul_right, suc-mul, arith}
+use Rattle.std.proofs.Common.{◌≡◌, ℕ, ◌+◌, ◌*◌, ◌<◌, ◌≤◌, true, ◌&&◌, leb, List, [], length, refl, mul-le-mul_right, suc-mul, arith}
 use Rattle.std.proofs.lemmas.Bool.{and_parts, leb-true, eqb-true}
 use Rattle.operation.specs.Algebra.{Algebra}
 use Rattle.victim.specs.Rules.{Rule}
@@ -8,7 +8,7 @@ use Rattle.tables.specs.declared.register.Register.{Register}
 use Rattle.tables.specs.declared.entry.Entry.{Entry}
 use Rattle.tables.specs.declared.ledger.Status.TheVariants.{Closed}
 use Rattle.tables.specs.Legal.{Legal, fits}
-use Rattle.model.specs.Bench.{Bench, State, state, bench}
+use Rattle.model.specs.Bench.{State, state, bench}
 use Rattle.model.proofs.Tabled.{Limits, Tabled}
 use Rattle.model.proofs.Legality.{legal_tabled}
 

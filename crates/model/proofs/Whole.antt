@@ -1,6 +1,5 @@
 -- The laws, together
 use Rattle.std.proofs.Common.{◌≡◌, List, None}
-use Rattle.tables.specs.Legal.{legal}
 use Rattle.model.proofs.Legality.{tabled_legal}
 use Rattle.model.proofs.Prompt.{prompt_run}
 use Rattle.model.proofs.Recorded.{faithful}

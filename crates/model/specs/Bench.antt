@@ -9,7 +9,7 @@
 --   answer_to   the answer to a request, given the value of its cell
 --   granted_line   the line that a grant makes, given what the home loads
 --   sent_home   the home once a line has been sent to it
-use Rattle.std.specs.Prelude.{◌≡◌, ℕ, zero, suc, ◌+◌, ◌<◌, Bool, true, false, cond, List, [], ◌∷◌, length, Some, None, Option, slice_index_or, slice_set}
+use Rattle.std.specs.Prelude.{ℕ, zero, suc, ◌+◌, ◌<◌, Bool, true, false, cond, List, [], ◌∷◌, length, Some, None, Option, slice_index_or, slice_set}
 use Rattle.operation.specs.Algebra.{Algebra, Lawful, applied}
 use Rattle.victim.specs.Rules.{Rule, Servable}
 use Rattle.tables.specs.declared.line.Line.{Line}

@@ -9,7 +9,7 @@
 --   Counted    (c) hits + grants = requests finished, and grants = recalls + evictions + yields + lines held
 --   Undamaged  a run never meets refusal 1, 2, 4 or 13: tables that only calls touch stay of their size and legal
 --   LawsHold   all of these, that the reference memory is Faithful at every point, and that the tables are legal at the end
-use Rattle.std.specs.Prelude.{◌≡◌, ℕ, ◌+◌, ◌*◌, ◌<◌, ◌≤◌, Bool, true, false, cond, List, [], ◌∷◌, ◌++◌, length, Some, None, Option, ◌==◌, ◌≢◌}
+use Rattle.std.specs.Prelude.{◌≡◌, ℕ, ◌+◌, ◌*◌, ◌<◌, ◌≤◌, Bool, true, false, cond, List, [], ◌∷◌, ◌++◌, Some, None, Option, ◌==◌, ◌≢◌}
 use Rattle.operation.specs.Algebra.{Algebra}
 use Rattle.victim.specs.Rules.{Rule}
 use Rattle.tables.specs.declared.request.Request.{Request}

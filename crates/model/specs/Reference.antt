@@ -7,7 +7,7 @@
 --   observed   the reference memory after one call
 --   at_making   at the making: every cell has the home's value, nobody waits, and nothing is noted
 --   remembered the reference memory after some events
-use Rattle.std.specs.Prelude.{◌≡◌, ℕ, ◌+◌, Bool, true, false, cond, List, [], ◌∷◌, Some, None, Option, ◌==◌}
+use Rattle.std.specs.Prelude.{ℕ, ◌+◌, cond, List, [], ◌∷◌, Some, None, Option, ◌==◌}
 use Rattle.std.specs.Option.{option_map}
 use Rattle.tables.specs.declared.request.Request.{Request}
 use Rattle.tables.specs.declared.request.Request.TheVariants.{Read, Write, Update}

@@ -13,7 +13,6 @@ use Rattle.tables.specs.declared.line.Line.TheVariants.{Invalid}
 use Rattle.tables.specs.declared.request.Request.{Request}
 use Rattle.tables.specs.declared.register.Register.{Register}
 use Rattle.tables.specs.declared.register.Register.TheVariants.{Empty}
-use Rattle.tables.specs.declared.entry.Entry.{Entry}
 use Rattle.tables.specs.Lines.{is_held, is_of, hits, conflicts, waits_for}
 use Rattle.party_set.specs.Searches.{first}
 

@@ -7,11 +7,9 @@
 --   made       the state that a make leaves
 --   taken      a call on the tables as they are
 --   events, final   the calls of a run with their answers, and the state that it ends in
-use Rattle.std.specs.Prelude.{◌≡◌, ℕ, zero, suc, ◌+◌, ◌-◌, ◌*◌, ◌/◌, ◌%◌, ◌^◌, ◌<◌, ◌≤◌, Bool, true, false, cond, not, ◌&&◌, List, [], ◌∷◌, length, replicate, Some, None, Option, ◌==◌, nat_le, nat_lt, slice_set}
-use Rattle.std.specs.Option.{option_map}
-use Rattle.operation.specs.Algebra.{Algebra}
+use Rattle.std.specs.Prelude.{ℕ, zero, suc, ◌+◌, ◌-◌, ◌*◌, ◌/◌, Bool, true, false, cond, ◌&&◌, List, [], ◌∷◌, length, replicate, Some, None, Option, ◌==◌, nat_le, nat_lt, slice_set}
 use Rattle.tables.specs.declared.line.Line.{Line}
-use Rattle.tables.specs.declared.line.Line.TheVariants.{Invalid, Shared, UpdateOnly, Modified}
+use Rattle.tables.specs.declared.line.Line.TheVariants.{Invalid}
 use Rattle.tables.specs.declared.request.Request.{Request}
 use Rattle.tables.specs.declared.register.Register.{Register}
 use Rattle.tables.specs.declared.register.Register.TheVariants.{Empty, Waiting, Answered}
@@ -22,8 +20,8 @@ use Rattle.tables.specs.declared.ledger.Status.TheVariants.{Open, Closed}
 use Rattle.tables.specs.declared.ledger.Ledger.{Ledger}
 use Rattle.tables.specs.declared.refusal.Refusal.{Refusal}
 use Rattle.tables.specs.declared.refusal.Refusal.TheVariants.{Sizes, Illegal, LedgerClosed, HomeTooSmall, CountTooHigh, NoSuchParty, NoSuchCell, RegisterInUse, RegisterEmpty, RegisterWaiting, NoLine, Unfinished, Place}
-use Rattle.party_set.specs.Sets.{has, with, without, is_nobody}
-use Rattle.tables.specs.Lines.{target, is_held, cell_of, is_of, phase_of, hits, conflicts, is_empty, waits_for}
+use Rattle.party_set.specs.Sets.{with, without, is_nobody}
+use Rattle.tables.specs.Lines.{target, is_held, cell_of, phase_of, is_empty}
 use Rattle.tables.specs.Legal.{blank, legal}
 use Rattle.tables.specs.Ledgers.{is_open, counts_low}
 use Rattle.model.specs.declared.call.Call.{Call}

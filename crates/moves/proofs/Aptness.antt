@@ -1,8 +1,8 @@
 -- What is known of the action that is decided, in the numbers that performing it asks for
-use Rattle.std.proofs.Common.{◌≡◌, ℕ, ◌+◌, ◌*◌, ◌/◌, ◌^◌, ◌<◌, ◌≤◌, true, ◌&&◌, ltb, List, length, get_or, Some, sym, ap, ◌∙◌, subst, mul-le-mul_right, arith}
+use Rattle.std.proofs.Common.{◌≡◌, ℕ, ◌+◌, ◌*◌, ◌/◌, ◌^◌, ◌<◌, ◌≤◌, true, ◌&&◌, ltb, List, length, get_or, Some, sym, subst, arith}
 use Rattle.std.proofs.lemmas.Bool.{and_parts, ltb-true}
 use Rattle.operation.specs.Algebra.{Algebra}
-use Rattle.victim.specs.Rules.{Rule, Servable}
+use Rattle.victim.specs.Rules.{Servable}
 use Rattle.tables.specs.declared.line.Line.{Line}
 use Rattle.tables.specs.declared.line.Line.TheVariants.{Invalid}
 use Rattle.tables.specs.declared.request.Request.{Request}

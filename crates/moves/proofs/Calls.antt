@@ -1,5 +1,5 @@
 -- The steps on legal tables of the right sizes: what the checks leave to do, and that the tables stay legal
-use Rattle.std.proofs.Common.{◌≡◌, ℕ, ◌<◌, Bool, true, ltb, leb, List, length, Some, None, Ok, Err, Option, sym, refl, ap, ◌∙◌, subst, arith}
+use Rattle.std.proofs.Common.{◌≡◌, ℕ, ◌<◌, Bool, true, ltb, leb, length, Some, None, Ok, Err, Option, sym, refl, ap, ◌∙◌, arith}
 use Rattle.std.proofs.lemmas.Bool.{ltb-true}
 use Rattle.operation.specs.Algebra.{Algebra}
 use Rattle.victim.specs.Rules.{Rule}
@@ -11,12 +11,12 @@ use Rattle.tables.specs.Lines.{target, is_empty}
 use Rattle.tables.specs.Legal.{Legal, fits, legal}
 use Rattle.tables.proofs.Legality.{legal_true}
 use Rattle.model.specs.declared.call.Call.{Call}
-use Rattle.model.specs.declared.call.Call.TheVariants.{Post, Advance, Collect, Yield, Settle}
+use Rattle.model.specs.declared.call.Call.TheVariants.{Post, Advance, Collect, Yield}
 use Rattle.model.specs.declared.answer.Answer.TheVariants.{Refused}
-use Rattle.model.specs.Bench.{Bench, Sound, State, bench, register, entry}
-use Rattle.model.specs.Steps.{need, step, whose, advance_if, advance_for, advance_refusal, post_if, post_by, post_refusal, own_hit, collect_if, collect_by, collect_refusal, yield_if, yield_by, yield_refusal, own_line}
+use Rattle.model.specs.Bench.{Bench, Sound, State, bench, register}
+use Rattle.model.specs.Steps.{need, step, advance_if, advance_refusal, post_if, post_by, post_refusal, own_hit, collect_if, collect_by, collect_refusal, yield_if, yield_by, yield_refusal, own_line}
 use Rattle.model.specs.Decisions.{decided, performed}
-use Rattle.model.specs.Reference.{Reference, at_making}
+use Rattle.model.specs.Reference.{at_making}
 use Rattle.model.proofs.Basics.{need_none}
 use Rattle.model.proofs.Tabled.{Tabled}
 use Rattle.model.proofs.Kept.{step_keeps, tabled_closed}

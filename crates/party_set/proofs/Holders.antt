@@ -1,5 +1,5 @@
 -- The laws of a set of parties, from its bits
-use Rattle.std.proofs.Common.{◌≡◌, ℕ, zero, suc, ◌+◌, ◌-◌, ◌*◌, ◌/◌, ◌%◌, ◌^◌, ◌<◌, ◌≤◌, Bool, true, false, eqb, ◌⊎◌, Some, None, sym, refl, ap, ◌∙◌, subst, inl, inr, ⊎_elim, pow-suc, arith}
+use Rattle.std.proofs.Common.{◌≡◌, ℕ, zero, suc, ◌+◌, ◌-◌, ◌*◌, ◌/◌, ◌%◌, ◌^◌, ◌<◌, ◌≤◌, true, false, eqb, ◌⊎◌, Some, None, sym, refl, ap, ◌∙◌, subst, inl, inr, ⊎_elim, pow-suc, arith}
 use native.Mathlib.Nat.{div_self, div-eq_of_lt, div-div-eq-div-mul, pow-succ', zero-div}
 use lib.Arith.{bin_ind}
 use lib.Bits.{bit_or, bit_xor, or_shr, xor_shr, or_mod, xor_mod, or_zero_r, xor_zero_r}

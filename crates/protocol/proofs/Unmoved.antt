@@ -1,5 +1,5 @@
 -- A refused call leaves the state as it was
-use Rattle.std.proofs.Common.{◌≡◌, ℕ, Bool, true, false, is_ok, Some, None, Ok, Err, Option, Result, sym, refl, ap, ◌∙◌}
+use Rattle.std.proofs.Common.{◌≡◌, ℕ, true, false, is_ok, Some, None, Ok, Err, Option, Result, sym, refl, ap, ◌∙◌}
 use Rattle.tables.specs.declared.line.Line.{Line}
 use Rattle.tables.specs.declared.request.Request.{Request}
 use Rattle.tables.specs.declared.register.Register.{Register}

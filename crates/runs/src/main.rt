@@ -13,6 +13,7 @@ use operation::{Count, Delta, Flags, Operation, Pair, Peak, Total};
 use protocol::abandon;
 use shown::{Shown, answer_text};
 use std::alloc::AllocError;
+use std::process::ExitCode;
 use tables::Ledger;
 use victim::{Oldest, Rotate, Victim};
 use workbench::{Workbench, row_of};
@@ -128,10 +129,13 @@ fn play_all(rt: &HostRuntime) -> anyhow::Result<()> {
     )
 }
 
-fn main(rt: HostRuntime) -> anyhow::Result<()> {
-    let done = play_all(&rt);
-    if let Err(stop) = &done {
-        let _ = eprintln!(rt; "runs: {stop}");
+// A fault is told in one line of its own, so main does not return it: the runtime would print it once more.
+fn main(rt: HostRuntime) -> ExitCode {
+    match play_all(&rt) {
+        Ok(()) => ExitCode::SUCCESS,
+        Err(stop) => {
+            let _ = eprintln!(rt; "runs: {stop}");
+            ExitCode::FAILURE
+        }
     }
-    done
 }

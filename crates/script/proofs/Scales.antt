@@ -1,7 +1,6 @@
 -- A count and a delta are made of the number that was read
 use Rattle.std.proofs.Common.{◌≡◌, ◌-◌, ◌^◌, ℤ, pos, negsuc, neg_ℤ, nat_abs, ◌≤ℤ◌, sym, ◌∙◌, arith, w32, SFits, to_z, of_z}
 use mir.Syntax.{w128}
-use Rattle.std.specs.Int.{int_wrap}
 use Rattle.std.proofs.lemmas.Int.{ints, int_wrap_fits}
 use Rattle.operation.specs.declared.Count.{Count}
 use Rattle.operation.specs.declared.Delta.{Delta}

@@ -1,5 +1,5 @@
 -- A make that is accepted
-use Rattle.std.proofs.Common.{◌≡◌, ℕ, ◌-◌, ◌*◌, Bool, true, false, cond, List, length, replicate, None, sym, refl, ap, ◌∙◌, subst, arith}
+use Rattle.std.proofs.Common.{◌≡◌, ℕ, ◌-◌, Bool, true, false, cond, List, length, replicate, None, sym, ap, ◌∙◌, arith}
 use Rattle.operation.specs.Algebra.{Algebra}
 use Rattle.victim.specs.Rules.{Rule}
 use Rattle.tables.specs.declared.line.Line.{Line}
@@ -9,7 +9,6 @@ use Rattle.tables.specs.declared.register.Register.TheVariants.{Empty}
 use Rattle.tables.specs.declared.entry.Entry.{Entry}
 use Rattle.tables.specs.Legal.{Legal, fits, blank}
 use Rattle.model.specs.Bench.{Bench, Sound, State, state, bench}
-use Rattle.model.specs.Reference.{at_making}
 use Rattle.model.specs.Steps.{made, make_refusal, new_ledger}
 use Rattle.model.proofs.Sized.{limits_of}
 use Rattle.model.proofs.Legality.{tabled_legal}

@@ -1,5 +1,5 @@
 -- Sending all lines home, one after the other, and what the checks of a settle leave to do
-use Rattle.std.proofs.Common.{◌≡◌, ℕ, zero, suc, ◌+◌, ◌-◌, ◌*◌, ◌/◌, ◌<◌, ◌≤◌, Bool, true, false, cond, leb, List, [], ◌∷◌, length, get_or, drop, Some, None, Option, sym, refl, ap, ◌∙◌, subst, mul-le-mul_right, arith}
+use Rattle.std.proofs.Common.{◌≡◌, ℕ, suc, ◌+◌, ◌-◌, ◌*◌, ◌/◌, ◌<◌, ◌≤◌, Bool, true, false, cond, leb, List, length, get_or, drop, Some, None, Option, sym, refl, ap, ◌∙◌, subst, mul-le-mul_right, arith}
 use Rattle.operation.specs.Algebra.{Algebra}
 use Rattle.victim.specs.Rules.{Rule}
 use Rattle.tables.specs.declared.refusal.Refusal.{Refusal}

@@ -10,6 +10,7 @@ use model::Call;
 use operation::{Count, Delta};
 use plays::{End, as_one_run, call_by_call};
 use std::env;
+use std::process::ExitCode;
 use std::time::{Duration, Instant};
 use tables::Ledger;
 
@@ -101,10 +102,13 @@ fn start(rt: &HostRuntime) -> anyhow::Result<()> {
     }
 }
 
-fn main(rt: HostRuntime) -> anyhow::Result<()> {
-    let done = start(&rt);
-    if let Err(stop) = &done {
-        let _ = eprintln!(rt; "speed: {stop}");
+// A fault is told in one line of its own, so main does not return it: the runtime would print it once more.
+fn main(rt: HostRuntime) -> ExitCode {
+    match start(&rt) {
+        Ok(()) => ExitCode::SUCCESS,
+        Err(stop) => {
+            let _ = eprintln!(rt; "speed: {stop}");
+            ExitCode::FAILURE
+        }
     }
-    done
 }

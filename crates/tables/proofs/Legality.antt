@@ -1,18 +1,15 @@
 -- The test `legal` decides the six statements
-use Rattle.std.proofs.Common.{◌≡◌, ℕ, zero, suc, ◌+◌, ◌*◌, ◌^◌, ◌<◌, ◌≤◌, Bool, true, false, not, ◌&&◌, ◌||◌, eqb, ltb, leb, ◌⊎◌, List, length, get_or, Some, None, Decides, Option, sym, refl, ap, ◌∙◌, subst, inl, inr, ⊎_elim, arith}
-use Rattle.std.proofs.lemmas.Bool.{cases_eq, cases_Bool, eqb-true, eqb-false, eq-eqb, ltb-true, lt-ltb, leb-true, le-leb, both_ways, not-true, not_from_false, and_from, and_parts, or_cases, or_left, or_right}
+use Rattle.std.proofs.Common.{◌≡◌, ℕ, ◌^◌, ◌<◌, Bool, true, false, not, ◌&&◌, ◌||◌, eqb, ltb, List, length, Some, None, Decides, Option, sym, refl, ap, subst, ⊎_elim}
+use Rattle.std.proofs.lemmas.Bool.{cases_eq, cases_Bool, eqb-true, eq-eqb, ltb-true, lt-ltb, both_ways, not-true, not_from_false, and_from, and_parts, or_cases, or_left, or_right}
 use Rattle.tables.specs.declared.line.Line.{Line}
-use Rattle.tables.specs.declared.line.Line.TheVariants.{Invalid}
-use Rattle.tables.specs.declared.request.Request.{Request}
 use Rattle.tables.specs.declared.register.Register.{Register}
-use Rattle.tables.specs.declared.register.Register.TheVariants.{Empty, Waiting, Answered}
 use Rattle.tables.specs.declared.entry.Phase.TheVariants as phase
 use Rattle.tables.specs.declared.entry.Entry.{Entry}
-use Rattle.party_set.specs.Sets.{has, nobody, is_nobody}
-use Rattle.tables.specs.Lines.{target, is_held, cell_of, is_of, phase_of, hits, waits_for}
+use Rattle.party_set.specs.Sets.{has, is_nobody}
+use Rattle.tables.specs.Lines.{is_held, cell_of, is_of, phase_of, waits_for}
 use Rattle.tables.specs.Legal.{Legal, InRange, HoldersRight, PhasesRight, legal, fits, every, any, phase_code, same, asks_within, misses, line_ok, pair_ok, turn_ok, entry_ok, holder_ok, owner_ok}
 use Rattle.tables.specs.Legal as spec
-use Rattle.tables.proofs.Tests.{no, every_from, every_at, any_from, any_at, imply, imply_at, code_same, is_of_held, is_of_own, is_of_cell, misses_from, misses_at, asks_from, asks_at, free_at, free_from}
+use Rattle.tables.proofs.Tests.{every_from, every_at, any_from, any_at, imply, imply_at, code_same, is_of_held, is_of_own, is_of_cell, misses_from, misses_at, asks_from, asks_at, free_at, free_from}
 use Rattle.party_set.proofs.Holders.{parties_below, below_parties}
 
 module _ {V P : Type 0} (ways : ℕ) (lines : List (Line V P)) (directory : List Entry) (registers : List (Register V P)) where

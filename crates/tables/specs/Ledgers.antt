@@ -1,7 +1,7 @@
 -- The words of the ledger
 --   is_open     calls may still be made
 --   counts_low  every count is below 2^63, so that none can wrap
-use Rattle.std.specs.Prelude.{ℕ, ◌^◌, Bool, true, false, ◌&&◌, nat_lt}
+use Rattle.std.specs.Prelude.{◌^◌, Bool, true, false, ◌&&◌, nat_lt}
 use Rattle.tables.specs.declared.ledger.Status.{Status}
 use Rattle.tables.specs.declared.ledger.Status.TheVariants.{Open, Closed}
 use Rattle.tables.specs.declared.ledger.Ledger.{Ledger}

@@ -3,7 +3,7 @@ use Rattle.std.proofs.Common.{◌≡◌, ℕ, ◌+◌, ◌<◌, ◌≤◌, true,
 use Rattle.std.proofs.ByRecursion.{All-push, All-weaker}
 use Rattle.std.proofs.lemmas.List.{get_or-replicate, get_or-set_other, get_or-set_same, length-set}
 use Rattle.std.proofs.lemmas.Bool.{cond_both, cond-false, cond-true, eq-eqb, eqb-false, eqb-true, ne_eqb}
-use Rattle.std.specs.List.{AllByRecursion as All}
+use Rattle.std.specs.List.{AllByRecursion}
 use Rattle.victim.specs.Ages.{newest, times}
 use Rattle.victim.specs.Aging.{aging, order_of}
 use Rattle.victim.specs.Limits.{hears}
@@ -15,7 +15,7 @@ use Rattle.victim.specs.Serving.{picked_oldest}
 
 abbrev Falling : (ℕ → ℕ) → List ℕ → Type 0
 Falling f [] = Unit {0}
-Falling f (x ∷ xs) = All (λ y. f y < f x) xs × Falling f xs
+Falling f (x ∷ xs) = AllByRecursion (λ y. f y < f x) xs × Falling f xs
 
 -- what a use of a way does to how long ago another was used
 ago_other : (H : List ℕ) (way y : ℕ) → (way ≡ y → ⊥) → ago (way ∷ H) y ≡ 1 + ago H y
@@ -27,18 +27,18 @@ ago_same H way = cond-true _ _ _ (eq-eqb way way refl)
 ago_less : (H : List ℕ) (way x y : ℕ) → (way ≡ x → ⊥) → ago H y < ago H x → ago (way ∷ H) y < ago (way ∷ H) x
 ago_less H way x y ne h = cond_both (eqb way y) 0 (1 + ago H y) (λ n. n < ago (way ∷ H) x) (λ e. rw (ago_other H way x ne) (omega arith)) (λ e. rw (ago_other H way x ne) (omega arith))
 
-all_newest : (P : ℕ → Type 0) (xs : List ℕ) (way : ℕ) → P way → All P xs → All P (newest xs way)
+all_newest : (P : ℕ → Type 0) (xs : List ℕ) (way : ℕ) → P way → AllByRecursion P xs → AllByRecursion P (newest xs way)
 all_newest P [] way p all = tt
 all_newest P (x ∷ xs) way p (q, all) =
-    cond_both (eqb x way) (xs ++ way ∷ []) (x ∷ newest xs way) (All P)
+    cond_both (eqb x way) (xs ++ way ∷ []) (x ∷ newest xs way) (AllByRecursion P)
     (λ e. All-push P xs way all p)
     (λ e. (q, all_newest P xs way p all))
 
-falling_push : (f : ℕ → ℕ) (xs : List ℕ) (y : ℕ) → All (λ x. f y < f x) xs → Falling f xs → Falling f (xs ++ y ∷ [])
+falling_push : (f : ℕ → ℕ) (xs : List ℕ) (y : ℕ) → AllByRecursion (λ x. f y < f x) xs → Falling f xs → Falling f (xs ++ y ∷ [])
 falling_push f [] y low fall = (tt, tt)
 falling_push f (x ∷ xs) y (l, low) (all, fall) = (All-push (λ z. f z < f x) xs y all l, falling_push f xs y low fall)
 
-falling_others : (H : List ℕ) (way : ℕ) (xs : List ℕ) → All (λ y. way ≡ y → ⊥) xs → Falling (ago H) xs → Falling (ago (way ∷ H)) xs
+falling_others : (H : List ℕ) (way : ℕ) (xs : List ℕ) → AllByRecursion (λ y. way ≡ y → ⊥) xs → Falling (ago H) xs → Falling (ago (way ∷ H)) xs
 falling_others H way [] others fall = tt
 falling_others H way (x ∷ xs) (ne, others) (all, fall) =
     (All-weaker (λ y. ago H y < ago H x) (λ y. ago (way ∷ H) y < ago (way ∷ H) x) (λ y h. ago_less H way x y ne h) xs all, falling_others H way xs others fall)
@@ -48,7 +48,7 @@ falling_newest : (H : List ℕ) (way : ℕ) (xs : List ℕ) → Falling (ago H) 
 falling_newest H way [] fall = tt
 falling_newest H way (x ∷ xs) (all, fall) =
     cond_both (eqb x way) (xs ++ way ∷ []) (x ∷ newest xs way) (Falling (ago (way ∷ H)))
-    (λ e. let others : All (λ y. way ≡ y → ⊥) xs = All-weaker (λ y. ago H y < ago H x) (λ y. way ≡ y → ⊥) (λ y h is. omega (arith, ap (ago H) (eqb-true x way e ∙ is))) xs all in
+    (λ e. let others : AllByRecursion (λ y. way ≡ y → ⊥) xs = All-weaker (λ y. ago H y < ago H x) (λ y. way ≡ y → ⊥) (λ y h is. omega (arith, ap (ago H) (eqb-true x way e ∙ is))) xs all in
     falling_push (ago (way ∷ H)) xs way
     (All-weaker (λ y. way ≡ y → ⊥) (λ y. ago (way ∷ H) way < ago (way ∷ H) y) (λ y ne. rw (ago_same H way, ago_other H way y ne) (omega arith)) xs others)
     (falling_others H way xs others fall))
@@ -60,7 +60,7 @@ falling_newest H way (x ∷ xs) (all, fall) =
     ))
 
 -- the first way below a bound in a falling order is above all others below it
-falling_first : (f : ℕ → ℕ) (older newer : List ℕ) (bound first way : ℕ) → All (λ x. bound ≤ x) older → way < bound → (times (older ++ first ∷ newer) way ≡ 0 → ⊥) → Falling f (older ++ first ∷ newer) → f way ≤ f first
+falling_first : (f : ℕ → ℕ) (older newer : List ℕ) (bound first way : ℕ) → AllByRecursion (λ x. bound ≤ x) older → way < bound → (times (older ++ first ∷ newer) way ≡ 0 → ⊥) → Falling f (older ++ first ∷ newer) → f way ≤ f first
 falling_first f [] newer bound first way out h some (all, fall) =
     times_all (λ y. f y ≤ f first) (first ∷ newer) way some (omega arith, All-weaker (λ y. f y < f first) (λ y. f y ≤ f first) (λ y l. omega arith) newer all)
 falling_first f (x ∷ older) newer bound first way (le, out) h some (all, fall) =

@@ -6,7 +6,7 @@
 --   oldest_below  the oldest way below a number
 --   IsOldest     a way stands in the order and is below the number, and all that are older are not
 use Rattle.std.specs.Prelude.{◌≡◌, ℕ, ◌<◌, ◌≤◌, cond, List, [], ◌∷◌, ◌++◌, Some, None, count_by, Option, ◌==◌, nat_eq, nat_lt}
-use Rattle.std.specs.List.{AllByRecursion as All}
+use Rattle.std.specs.List.{AllByRecursion}
 
 abbrev pub times : List ℕ → ℕ → ℕ
 times order way = count_by (λ x. nat_eq x way) order
@@ -26,4 +26,4 @@ oldest_below [] bound = None
 oldest_below (x ∷ xs) bound = cond (nat_lt x bound) (Some x) (oldest_below xs bound)
 
 abbrev pub IsOldest : List ℕ → ℕ → ℕ → Type 0
-IsOldest order bound way = (older : List ℕ) × (newer : List ℕ) × (order ≡ older ++ way ∷ newer) × (way < bound) × All (λ x. bound ≤ x) older
+IsOldest order bound way = (older : List ℕ) × (newer : List ℕ) × (order ≡ older ++ way ∷ newer) × (way < bound) × AllByRecursion (λ x. bound ≤ x) older

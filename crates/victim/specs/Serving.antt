@@ -4,7 +4,7 @@ use Rattle.std.proofs.Common.{ap, arith}
 use Rattle.std.proofs.lemmas.Bool.{cond_both, ltb-false, ltb-true}
 use Rattle.std.proofs.lemmas.Bool.Decides.{not_from_Decides, nat_tests}
 use Rattle.std.specs.Option.{unwrap_or}
-use Rattle.std.specs.List.{AllByRecursion as All}
+use Rattle.std.specs.List.{AllByRecursion}
 use Rattle.victim.specs.Ages.{IsOldest, oldest_below}
 use Rattle.victim.specs.Aging.{IsAnswer, aging, oldest_of, order_of}
 use Rattle.victim.specs.Limits.{serves}
@@ -14,7 +14,7 @@ use Rattle.victim.specs.Counting.{times_below}
 
 -- what a search answers: a way that is the oldest below the bound, or none where all are from the bound on
 abbrev Found : List ℕ → ℕ → Option ℕ → Type 0
-Found xs bound o = MatchOption o (All (λ x. bound ≤ x) xs) (IsOldest xs bound)
+Found xs bound o = MatchOption o (AllByRecursion (λ x. bound ≤ x) xs) (IsOldest xs bound)
 
 later : (x : ℕ) (xs : List ℕ) (bound : ℕ) → bound ≤ x → (o : Option ℕ) → Found xs bound o → Found (x ∷ xs) bound o
 later x xs bound h None all = (h, all)

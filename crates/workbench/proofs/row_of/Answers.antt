@@ -1,4 +1,4 @@
-use Rattle.std.proofs.Common.{◌≡◌, ℕ, zero, suc, ◌-◌, List, [], ◌++◌, take, replicate, refl, ap, ◌∙◌, arith}
+use Rattle.std.proofs.Common.{◌≡◌, ℕ, zero, suc, ◌-◌, [], ◌++◌, take, replicate, refl, ap, ◌∙◌, arith}
 use Rattle.workbench.proofs.row_of.Goals as goal
 
 take_none : {X : Type 0} (n : ℕ) → take {A = X} n [] ≡ []

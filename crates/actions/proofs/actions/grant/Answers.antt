@@ -1,4 +1,4 @@
-use Rattle.std.proofs.Common.{◌≡◌, ℕ, set, sym, refl, ap, ◌∙◌}
+use Rattle.std.proofs.Common.{ℕ, set, sym, refl, ap, ◌∙◌}
 use Rattle.tables.specs.declared.register.Register.TheVariants.{Answered}
 use Rattle.tables.specs.Lines.{target}
 use Rattle.model.specs.declared.answer.Answer.TheVariants.{Refused}

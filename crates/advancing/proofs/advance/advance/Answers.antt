@@ -1,8 +1,8 @@
-use Rattle.std.proofs.Common.{◌≡◌, ℕ, ◌<◌, sym, refl, ap, ◌∙◌, subst, arith}
+use Rattle.std.proofs.Common.{sym, ap, ◌∙◌, subst}
 use Rattle.std.proofs.lemmas.Result.{err_from_is_err_and}
 use Rattle.operation.proofs.Lawful.{lawful}
 use Rattle.tables.specs.Legal.{Legal}
-use Rattle.model.specs.declared.call.Call.TheVariants.{Post, Advance, Collect, Yield}
+use Rattle.model.specs.declared.call.Call.TheVariants.{Advance}
 use Rattle.model.specs.declared.answer.Answer.TheVariants.{Refused}
 use Rattle.model.specs.Bench.{State, bench, state}
 use Rattle.moves.proofs.Sounds.{sound}

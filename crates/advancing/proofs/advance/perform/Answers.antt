@@ -1,4 +1,3 @@
-use Rattle.std.proofs.Common.{ℕ, arith}
 use Rattle.moves.proofs.Aptness.{low, recall_apt, evict_apt, grant_apt}
 use Rattle.advancing.proofs.advance.perform.Goals as goal
 

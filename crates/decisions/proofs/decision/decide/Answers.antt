@@ -1,6 +1,5 @@
-use Rattle.std.proofs.Common.{◌≡◌, ℕ, ◌<◌, length, get_or, sym, ap, ◌∙◌, subst, arith}
+use Rattle.std.proofs.Common.{◌<◌, length, sym, subst, arith}
 use Rattle.tables.specs.declared.entry.Entry.{Entry}
-use Rattle.tables.specs.Legal.{blank}
 use Rattle.model.proofs.Sized.{bare_limits}
 use Rattle.decisions.proofs.Served.{served_waits, waits_for_target}
 use Rattle.decisions.proofs.decision.decide.Goals as goal

@@ -1,4 +1,4 @@
-use Rattle.std.proofs.Common.{◌≡◌, ℕ, ◌+◌, Bool, get_or, sym, ap, ◌∙◌, arith}
+use Rattle.std.proofs.Common.{ℕ, Bool, get_or, sym, ap, ◌∙◌, arith}
 use Rattle.tables.specs.declared.line.Line.TheVariants.{Invalid}
 use Rattle.party_set.proofs.Searches.{first_here, first_next}
 use Rattle.decisions.specs.Sought.{is_sought}

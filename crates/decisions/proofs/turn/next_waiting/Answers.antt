@@ -1,6 +1,6 @@
 use Rattle.std.proofs.Common.{sym, ap, ◌∙◌, arith}
 use Rattle.tables.specs.Lines.{waits_for}
-use Rattle.decisions.proofs.Turns.{found, onward, nobody_waits}
+use Rattle.decisions.proofs.Turns.{found, onward}
 use Rattle.decisions.proofs.turn.next_waiting.Goals as goal
 
 pub round-preserved : goal.round-preserved

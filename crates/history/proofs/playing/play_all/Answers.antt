@@ -1,4 +1,4 @@
-use Rattle.std.proofs.Common.{◌≡◌, ◌<◌, ◌≤◌, ◌++◌, length, vec_items, sym, refl, ap, ◌∙◌, subst, arith}
+use Rattle.std.proofs.Common.{◌<◌, ◌≤◌, ◌++◌, length, vec_items, sym, refl, ap, subst, arith}
 use Rattle.operation.proofs.Lawful.{lawful}
 use Rattle.model.specs.Bench.{bench, state}
 use Rattle.model.specs.Reference.{at_making}

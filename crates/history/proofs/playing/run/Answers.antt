@@ -11,7 +11,7 @@ use Rattle.model.proofs.Whole.{whole}
 use Rattle.moves.proofs.Calls.{passed, failed}
 use Rattle.moves.proofs.Sounds.{sound}
 use Rattle.history.specs.Runs.{together, answers_of}
-use Rattle.history.proofs.Turns.{answered, together_events, tabled_fits}
+use Rattle.history.proofs.Turns.{together_events, tabled_fits}
 use Rattle.history.proofs.playing.run.Goals as goal
 
 pub returns-in-Err : goal.returns-in-Err

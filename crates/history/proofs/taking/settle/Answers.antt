@@ -1,4 +1,4 @@
-use Rattle.std.proofs.Common.{◌≡◌, leb, length, None, sym, refl, ap, ◌∙◌}
+use Rattle.std.proofs.Common.{leb, length, None, sym, refl, ap, ◌∙◌}
 use Rattle.tables.specs.declared.refusal.Refusal.TheVariants.{LedgerClosed, HomeTooSmall, CountTooHigh, Unfinished}
 use Rattle.tables.specs.Ledgers.{counts_low}
 use Rattle.model.specs.declared.call.Call.TheVariants.{Settle}

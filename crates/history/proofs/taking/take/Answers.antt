@@ -1,4 +1,4 @@
-use Rattle.std.proofs.Common.{◌≡◌, sym, refl, ap, ◌∙◌}
+use Rattle.std.proofs.Common.{sym, ap, ◌∙◌}
 use Rattle.model.specs.Bench.{bench, state}
 use Rattle.model.specs.Steps.{step}
 use Rattle.history.proofs.Opening.{ends, kept_open, post_no_end, advance_no_end, collect_no_end, yield_no_end}

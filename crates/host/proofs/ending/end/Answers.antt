@@ -1,4 +1,4 @@
-use Rattle.std.proofs.Common.{◌≡◌, sym, ap, ◌∙◌}
+use Rattle.std.proofs.Common.{sym, ap, ◌∙◌}
 use Rattle.model.specs.Bench.{State, bench, state}
 use Rattle.model.specs.Steps.{close, settle_if, settle_refusal}
 use Rattle.settlement.specs.Left.{owed}

@@ -1,9 +1,9 @@
-use Rattle.std.proofs.Common.{◌≡◌, ℕ, ◌+◌, ◌*◌, ◌<◌, ◌≤◌, length, Some, None, sym, refl, ap, ◌∙◌, subst, arith}
+use Rattle.std.proofs.Common.{sym, refl, ap, ◌∙◌, subst, arith}
 use Rattle.std.proofs.lemmas.Result.{err_from_is_err_and}
 use Rattle.operation.proofs.Lawful.{lawful}
 use Rattle.tables.specs.Legal.{Legal}
-use Rattle.model.specs.declared.call.Call.TheVariants.{Post, Collect, Yield}
-use Rattle.model.specs.declared.answer.Answer.TheVariants.{Refused, Collected}
+use Rattle.model.specs.declared.call.Call.TheVariants.{Yield}
+use Rattle.model.specs.declared.answer.Answer.TheVariants.{Refused}
 use Rattle.model.specs.Bench.{State, bench, state}
 use Rattle.moves.proofs.Sounds.{sound}
 use Rattle.actions.proofs.States.{same_state}

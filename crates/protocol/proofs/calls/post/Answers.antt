@@ -1,9 +1,9 @@
-use Rattle.std.proofs.Common.{◌≡◌, Bool, true, false, is_ok, sym, refl, ap, ◌∙◌}
+use Rattle.std.proofs.Common.{is_ok, sym, refl, ap, ◌∙◌}
 use Rattle.std.proofs.lemmas.Result.{err_from_is_err_and}
-use Rattle.model.specs.declared.call.Call.TheVariants.{Post, Advance, Collect, Yield}
+use Rattle.model.specs.declared.call.Call.TheVariants.{Post}
 use Rattle.model.specs.declared.answer.Answer.TheVariants.{Refused}
 use Rattle.model.specs.Bench.{bench, state}
-use Rattle.answers.specs.Answers.{posted, advanced, collected, yielded}
+use Rattle.answers.specs.Answers.{posted}
 use Rattle.settlement.proofs.Makes.{not_ok}
 use Rattle.protocol.proofs.Audited.{audit_refused}
 use Rattle.protocol.proofs.Unmoved.{unmoved, posts}

@@ -1,4 +1,4 @@
-use Rattle.std.proofs.Common.{◌≡◌, sym, refl, ap, ◌∙◌}
+use Rattle.std.proofs.Common.{sym, refl, ◌∙◌}
 use Rattle.model.specs.declared.call.Call.TheVariants.{Settle}
 use Rattle.model.specs.Bench.{bench, state}
 use Rattle.settlement.proofs.Makes.{not_ok}

@@ -1,5 +1,5 @@
 use Rattle.std.proofs.Common.{not, ap, arith, eq-eqb, ne_eqb}
-use Rattle.std.proofs.lemmas.List.Sums.{prefix_len-drop_yes, prefix_len-drop_no, prefix_len-drop_all, prefix_len-le-length}
+use Rattle.std.proofs.lemmas.List.Sums.{prefix_len-drop_yes, prefix_len-drop_no, prefix_len-drop_all}
 use Rattle.script.specs.Cuts.{other}
 use Rattle.script.proofs.fields.until.Goals as goal
 

@@ -1,4 +1,4 @@
-use Rattle.std.proofs.Common.{◌≡◌, set, ap, ◌∙◌, arith}
+use Rattle.std.proofs.Common.{set, ap, ◌∙◌, arith}
 use Rattle.settlement.proofs.Filling.{fill_more, fill_all}
 use Rattle.settlement.proofs.making.clear.Goals as goal
 

@@ -1,4 +1,4 @@
-use Rattle.std.proofs.Common.{◌≡◌, ◌-◌, leb, length, replicate, is_ok, Some, None, sym, refl, ap, ◌∙◌, subst}
+use Rattle.std.proofs.Common.{◌-◌, length, replicate, is_ok, Some, None, sym, ap, ◌∙◌, subst}
 use Rattle.std.proofs.lemmas.Result.{err_from_is_err_and}
 use Rattle.operation.proofs.Lawful.{lawful}
 use Rattle.tables.specs.declared.entry.Phase.TheVariants as phase

@@ -1,4 +1,4 @@
-use Rattle.std.proofs.Common.{◌≡◌, ◌+◌, false, cond, drop, sym, ap, ◌∙◌, arith}
+use Rattle.std.proofs.Common.{◌+◌, false, cond, drop, sym, ap, ◌∙◌, arith}
 use Rattle.model.specs.Bench.{all_empty}
 use Rattle.settlement.proofs.Sending.{no_more, one_more}
 use Rattle.settlement.proofs.settling.all_empty.Goals as goal

@@ -1,7 +1,7 @@
-use Rattle.std.proofs.Common.{◌≡◌, ◌+◌, ◌-◌, ◌*◌, ◌<◌, ◌≤◌, length, sym, refl, ap, ◌∙◌, subst, arith}
+use Rattle.std.proofs.Common.{◌≡◌, ◌+◌, ◌-◌, ◌*◌, ◌<◌, length, sym, refl, ap, ◌∙◌, subst, arith}
 use Rattle.tables.specs.Lines.{is_held}
 use Rattle.model.specs.Bench.{state, bench, line}
-use Rattle.model.specs.Steps.{all_sent, emptied}
+use Rattle.model.specs.Steps.{all_sent}
 use Rattle.model.proofs.Tabled.{Tabled}
 use Rattle.model.proofs.Sized.{limits_of, tabled_of}
 use Rattle.moves.proofs.Aptness.{low}

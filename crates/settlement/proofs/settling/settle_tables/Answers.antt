@@ -1,4 +1,4 @@
-use Rattle.std.proofs.Common.{◌≡◌, ◌*◌, leb, length, None, sym, refl, ap, ◌∙◌, subst}
+use Rattle.std.proofs.Common.{leb, length, None, sym, ap, ◌∙◌, subst}
 use Rattle.std.proofs.lemmas.Result.{err_from_is_err_and}
 use Rattle.operation.proofs.Lawful.{lawful}
 use Rattle.tables.specs.declared.refusal.Refusal.TheVariants.{LedgerClosed, HomeTooSmall, CountTooHigh, Unfinished}

@@ -1,4 +1,4 @@
-use Rattle.std.proofs.Common.{◌≡◌, length, ap, ◌∙◌}
+use Rattle.std.proofs.Common.{length, ap, ◌∙◌}
 use lib.ListN.{length-replicate}
 use Rattle.workbench.proofs.Workbench.new.Goals as goal
 
