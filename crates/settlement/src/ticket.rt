@@ -1,28 +1,33 @@
 // The settlement ticket.
+ghost use Rattle.std.specs.Prelude.{◌≡◌, false, IsTrue};
+
 use tables::Refusal;
 
 // A bench in play owes its settlement: whoever holds the ticket has yet to settle or abandon it.
-// `make` alone issues a ticket, and `settle` and `abandon` alone spend it. Letting one go, or spending it
-// twice, is refused by the check, since nobody can show what its `drop` asks for. It bears no mark of its bench.
+// `make` alone issues a ticket, and `settle` and `abandon` alone spend it. Only a spent ticket may be let go, and no
+// promise says of a ticket that a host has that it is spent: so the check refuses a host that forgets its ticket, and
+// one that gives it up twice has none to give. It bears no mark of its bench.
 pub struct Ticket {
-    spent: (),
+    spent: bool,
 }
 
 impl Drop for Ticket {
     fn drop(self)
-        requires { ⊥ }
+        requires { IsTrue self.spent }
     {
         let Ticket { spent: _ } = self;
     }
 }
 
 impl Ticket {
-    pub(crate) fn issue() -> Ticket {
-        Ticket { spent: () }
+    pub(crate) fn issue() -> Ticket
+        ensures { result.spent ≡ false }
+    {
+        Ticket { spent: false }
     }
 
-    pub(crate) fn spend(self) {
-        let Ticket { spent: _ } = self;
+    pub(crate) fn spend(mut self) {
+        self.spent = true;
     }
 }
 
