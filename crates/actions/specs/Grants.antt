@@ -1,5 +1,5 @@
 -- What a home offers to a grant
---   offered    the line, or the refusal of a place outside the home's cells
+--   offered  the line, or the refusal of a place outside the home's cells
 use Rattle.std.specs.Prelude.{Some, None, Ok, Err, Option, Result}
 use Rattle.tables.specs.declared.refusal.Refusal.{Refusal}
 use Rattle.tables.specs.declared.refusal.Refusal.TheVariants.{Place}

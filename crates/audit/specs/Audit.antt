@@ -1,9 +1,9 @@
 -- The audit of tables
---   audited      what it answers: the first check that fails, in rising order
---   Sized        what the passes over the tables lean on, where the sizes fit
---   room         a line may join those found of its cell: no party has two, and a Modified line is alone
---   admits       a line is right, as far as the parties found before it tell
---   admitted     the parties found, with the line's
+--   audited       what it answers: the first check that fails, in rising order
+--   Sized         what the passes over the tables lean on, where the sizes fit
+--   room          a line may join those found of its cell: no party has two, and a Modified line is alone
+--   admits        a line is right, as far as the parties found before it tell
+--   admitted      the parties found, with the line's
 --   same_parties  two sets have the same parties
 --   free_right    a phase is Free exactly where nobody holds the cell
 --   turn_waits    a turn, if any, names a party that waits for the cell

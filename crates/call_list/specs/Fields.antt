@@ -1,7 +1,7 @@
 -- The lines of a text, and the words of a line
---   Begins     that a text begins with these lines, and what is left of it
---   First      that a text is white space, a word, and a rest that is empty or begins with white space
---   Words      that these are the words of a text
+--   Begins  that a text begins with these lines, and what is left of it
+--   First   that a text is white space, a word, and a rest that is empty or begins with white space
+--   Words   that these are the words of a text
 use Rattle.std.specs.Prelude.{◌≡◌, ℕ, ◌<◌, List, [], ◌∷◌, ◌++◌, length}
 use Rattle.std.specs.Str.Lines.{IsFirstLine}
 use Rattle.std.specs.Char.{is_whitespace, is_not_whitespace}

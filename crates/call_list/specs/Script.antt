@@ -1,6 +1,6 @@
 -- The words of a list of calls
---   verb_word   the word of a call
---   kind_word   the word of an operation
+--   verb_word  the word of a call
+--   kind_word  the word of an operation
 --   Place      that a field writes a place: any number of 64 bits
 --   Cells      that a field writes a number of cells: from 1 to 65,536
 --   HeadLine   that a line says an operation and a number of cells

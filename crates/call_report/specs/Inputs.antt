@@ -1,9 +1,9 @@
 -- The words of a program that turns an input into a report
---   line_feed    whether a byte ends a line
---   Headed      that the first line of a text says an operation and a number of cells
---   Reported    that a report is that of the calls of a text, for an operation and its notation
---   ReportOf    the same for an operation by its name: values and partials are numbers in its ranges, and shown in decimal
---   Answers     that a report is that of an input
+--   line_feed  whether a byte ends a line
+--   Headed     that the first line of a text says an operation and a number of cells
+--   Reported   that a report is that of the calls of a text, for an operation and its notation
+--   ReportOf   the same for an operation by its name: values and partials are numbers in its ranges, and shown in decimal
+--   Answers    that a report is that of an input
 use Rattle.std.specs.Prelude.{◌≡◌, ℕ, ◌-◌, ◌^◌, max, Bool, List, [], ◌∷◌, decimal, Result, ◌==◌, bit_or}
 use Rattle.operation.specs.Algebra.{Algebra}
 use Rattle.operation.specs.Total.{totals}

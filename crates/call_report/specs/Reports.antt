@@ -1,10 +1,10 @@
 -- The words of a comparison and of its report
---   Compared    that a comparison has the answers and cells of a plain list that starts at 0, and found that the piles agree
---   counts_line  how many calls of each kind reached the cells under a pile
+--   Compared       that a comparison has the answers and cells of a plain list that starts at 0, and found that the piles agree
+--   counts_line    how many calls of each kind reached the cells under a pile
 --   reached_lines  the same of the three piles
 --   verdict_line   whether the piles agree
---   layout        how the parts of a report stand
---   report_text  the whole report
+--   layout         how the parts of a report stand
+--   report_text    the whole report
 use Rattle.std.specs.Prelude.{◌≡◌, ℕ, Bool, true, cond, List, ◌++◌, replicate, string_bytes, codes, decimal}
 use Rattle.operation.specs.Algebra.{Algebra}
 use Rattle.memory.specs.Row.{counted}

@@ -1,12 +1,12 @@
 -- The words of a report
---   line_number  the number of the line of a call, by the calls before it: the first stands on line 2
---   numbered    a line with a number and a text
---   lines_from   a line for each item of a list, by its place from a first place on
---   said        what an answer says: the value of a load, `done`, or `refused` and the refusal's number
---   answer_line  an answer, after the number of its call's line
---   answer_lines the answers to all calls
---   cell_line    a cell's place and value, unless that is 0
---   cell_lines   the cells that are not 0
+--   line_number   the number of the line of a call, by the calls before it: the first stands on line 2
+--   numbered      a line with a number and a text
+--   lines_from    a line for each item of a list, by its place from a first place on
+--   said          what an answer says: the value of a load, `done`, or `refused` and the refusal's number
+--   answer_line   an answer, after the number of its call's line
+--   answer_lines  the answers to all calls
+--   cell_line     a cell's place and value, unless that is 0
+--   cell_lines    the cells that are not 0
 use Rattle.std.specs.Prelude.{ℕ, ◌+◌, ◌-◌, ◌^◌, min, cond, List, [], ◌∷◌, ◌++◌, codes, decimal}
 use Rattle.std.specs.Str.{bytes_eq}
 use Rattle.memory.specs.Homes.{number_of}

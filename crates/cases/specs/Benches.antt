@@ -1,7 +1,7 @@
 -- The bench of the cases, as the steps see it
---   asked      a call of a case
---   state_of    what the bench holds, with the home's meaning
---   bench_of    the bench of its sizes, with one way for each party
+--   asked     a call of a case
+--   state_of  what the bench holds, with the home's meaning
+--   bench_of  the bench of its sizes, with one way for each party
 use Rattle.std.specs.Prelude.{vec_items}
 use Rattle.operation.specs.declared.count.Count.{Count}
 use Rattle.operation.specs.declared.delta.Delta.{Delta}

@@ -1,8 +1,8 @@
 -- What a make, or a call of a home, comes to
---   done_or     a store or an apply
---   value_or    a load
---   reply_to    a make, by what speaks against it
---   made_of     a make of tables, with one way for each party: the limits decide, and whether the home has the cells
+--   done_or   a store or an apply
+--   value_or  a load
+--   reply_to  a make, by what speaks against it
+--   made_of   a make of tables, with one way for each party: the limits decide, and whether the home has the cells
 use Rattle.std.specs.Prelude.{List, length, Some, None, Ok, Err, Option, Result, nat_le}
 use Rattle.operation.specs.declared.count.Count.{Count}
 use Rattle.operation.specs.declared.delta.Delta.{Delta}

@@ -1,10 +1,10 @@
 -- A run: a make, and a list of calls, each on what the one before left
 --   answers_of  the answers of some events
---   together   calls with their answers
---   held       whether a ticket is still to be given up
---   Ran        what a run gives: the answers and the state that the steps give one after the other, and the laws over
---              the calls with the answers that were given
---   Spared     a run that did not take place has left all as it was
+--   together    calls with their answers
+--   held        whether a ticket is still to be given up
+--   Ran         what a run gives: the answers and the state that the steps give one after the other, and the laws over
+--               the calls with the answers that were given
+--   Spared      a run that did not take place has left all as it was
 use Rattle.std.specs.Prelude.{◌≡◌, ℕ, Bool, true, false, List, [], ◌∷◌, Some, None, Option}
 use Rattle.operation.specs.Algebra.{Algebra}
 use Rattle.victim.specs.Rules.{Rule}

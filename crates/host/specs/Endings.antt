@@ -1,5 +1,5 @@
 -- How a bench ends
---   ending     a settle that nothing speaks against, or else an abandon: why, and how many lines were left that owe something
+--   ending  a settle that nothing speaks against, or else an abandon: why, and how many lines were left that owe something
 use Rattle.std.specs.Prelude.{Some, None, Option}
 use Rattle.tables.specs.declared.refusal.Refusal.{Refusal}
 use Rattle.model.specs.Bench.{State}

@@ -1,5 +1,5 @@
 -- How a host has a request served
---   served     the calls that it makes: a post, and one advance of the cell
+--   served  the calls that it makes: a post, and one advance of the cell
 use Rattle.std.specs.Prelude.{ℕ, List, [], ◌∷◌}
 use Rattle.tables.specs.Lines.{target}
 use Rattle.tables.specs.declared.request.Request.{Request}

@@ -1,7 +1,7 @@
 -- The words of a play: what a list of values answers to calls, and what they leave of it
 --   answer     what a call of a home answers to its caller
---   of_load     the answer that a load's result makes
---   of_change   the answer that a store's or an apply's result makes
+--   of_load    the answer that a load's result makes
+--   of_change  the answer that a store's or an apply's result makes
 --   after      the values after a call
 --   answered   the answers to a list of calls, in their order
 --   finally    the values after a list of calls

@@ -1,8 +1,8 @@
 -- The words of a layer that counts
 --   more       a count once one more call got through; a full count stays
---   one_load    the counts after a load that was accepted, or was not
---   one_store   the counts after a store that was accepted, or was not
---   one_apply   the counts after an apply that was accepted, or was not
+--   one_load   the counts after a load that was accepted, or was not
+--   one_store  the counts after a store that was accepted, or was not
+--   one_apply  the counts after an apply that was accepted, or was not
 --   none       the counts before the first call
 use Rattle.std.specs.Prelude.{ℕ, ◌+◌, ◌-◌, ◌^◌, min, Bool, true, false}
 use Rattle.layering.specs.declared.counting.Counts.{Counts}

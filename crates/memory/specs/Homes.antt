@@ -1,5 +1,5 @@
 -- The words of a home
---   number_of   the number of a refusal: 13, a place outside the home's cells
+--   number_of  the number of a refusal: 13, a place outside the home's cells
 --   loaded     what a load of a place answers
 --   placed     what a store or an apply at a place answers
 use Rattle.std.specs.Prelude.{ℕ, zero, suc, List, [], ◌∷◌, Ok, Err, Result}

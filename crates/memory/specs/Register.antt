@@ -1,5 +1,5 @@
 -- The words of a combining register
---   acting     the values of the home below once the held partial has acted at its place
+--   acting  the values of the home below once the held partial has acted at its place
 use Rattle.std.specs.Prelude.{List}
 use Rattle.operation.specs.Algebra.{Algebra, applied}
 use Rattle.memory.specs.declared.combining.Held.{Held}

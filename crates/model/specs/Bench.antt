@@ -1,14 +1,14 @@
 -- The words of a bench and its state
---   Bench      what a bench is made over: an update operation, a victim rule, and the sizes P, N and W
---   Sound      the operation keeps its laws, and the rule picks an existing way
---   State      the tables, the ledger, what the rule holds, and the list of values that the home means
---   line       line i of the flat table: way i - p × W of party p
---   lookup     what stands at a place of a list, if anything does
---   hit_line    what a line becomes when a request hits it
---   value_in    the value that a line has, if any
---   answer_to   the answer to a request, given the value of its cell
---   granted_line   the line that a grant makes, given what the home loads
---   sent_home   the home once a line has been sent to it
+--   Bench         what a bench is made over: an update operation, a victim rule, and the sizes P, N and W
+--   Sound         the operation keeps its laws, and the rule picks an existing way
+--   State         the tables, the ledger, what the rule holds, and the list of values that the home means
+--   line          line i of the flat table: way i - p × W of party p
+--   lookup        what stands at a place of a list, if anything does
+--   hit_line      what a line becomes when a request hits it
+--   value_in      the value that a line has, if any
+--   answer_to     the answer to a request, given the value of its cell
+--   granted_line  the line that a grant makes, given what the home loads
+--   sent_home     the home once a line has been sent to it
 use Rattle.std.specs.Prelude.{ℕ, zero, suc, ◌+◌, ◌<◌, Bool, true, false, cond, List, [], ◌∷◌, length, Some, None, Option, slice_index_or, slice_set}
 use Rattle.operation.specs.Algebra.{Algebra, Lawful, applied}
 use Rattle.victim.specs.Rules.{Rule, Servable}

@@ -1,13 +1,13 @@
 -- What the reference memory amounts to, told by the requests finished
---   finishes   the request that a call with this outcome finishes, if any
---   then       a list with what comes before it, if anything does
---   finished_in the requests finished over some events, in the order in which they finished
---   is_written  a write of the cell is among the requests
+--   finishes        the request that a call with this outcome finishes, if any
+--   then            a list with what comes before it, if anything does
+--   finished_in     the requests finished over some events, in the order in which they finished
+--   is_written      a write of the cell is among the requests
 --   last_written    the value of the last write of the cell among the requests, or else the starting value
 --   partials_since  the partials of the cell's updates after that write, or of all of them without one, in order
---   Faithful   at every cell the reference memory has the last value written, or the starting value, with each partial
---              since then having acted on it once, in whatever order; and it has counted every request finished
--- Here `folded act v ps` is v once the partials ps have acted on it in turn, and `Shuffled ps qs` says that the list qs
+--   Faithful        at every cell the reference memory has the last value written, or the starting value, with each partial
+--                   since then having acted on it once, in whatever order; and it has counted every request finished
+-- Here `fold act v ps` is v once the partials ps have acted on it in turn, and `IsPermutation ps qs` says that the list qs
 -- is the list ps in some order.
 use Rattle.std.specs.Prelude.{◌≡◌, ℕ, Bool, false, cond, not, ◌&&◌, ◌||◌, List, [], ◌∷◌, length, Some, None, fold, Option, ◌==◌}
 use Rattle.std.specs.Option.{option_map}

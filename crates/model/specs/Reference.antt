@@ -1,12 +1,12 @@
 -- The reference memory: a plain map from cells to values, which every run of a bench is held to
 -- It is fed each call's arguments and, of its answer, only the outcome: refused, hit, queued, or granted to a party.
---   Reference  each cell's value, each party's waiting request and note (the answer that its next collect is to get),
---              and the number of requests finished
---   Outcome    all that the reference memory is told of an answer
---   finish     a request takes effect: a read notes the cell's value, a write replaces it, an update acts on it
---   observed   the reference memory after one call
+--   Reference   each cell's value, each party's waiting request and note (the answer that its next collect is to get),
+--               and the number of requests finished
+--   Outcome     all that the reference memory is told of an answer
+--   finish      a request takes effect: a read notes the cell's value, a write replaces it, an update acts on it
+--   observed    the reference memory after one call
 --   at_making   at the making: every cell has the home's value, nobody waits, and nothing is noted
---   remembered the reference memory after some events
+--   remembered  the reference memory after some events
 use Rattle.std.specs.Prelude.{ℕ, ◌+◌, cond, List, [], ◌∷◌, Some, None, Option, ◌==◌}
 use Rattle.std.specs.Option.{option_map}
 use Rattle.tables.specs.declared.request.Request.{Request}

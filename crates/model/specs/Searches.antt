@@ -1,11 +1,11 @@
 -- The searches of the steps, over the tables alone
 --   own_hit_in     the party's first line that the request hits
---   conflict_in the first conflicting line: the lowest party's, since a party has one line of a cell at most
---   vacant_in   the party's lowest Invalid way, as a line
+--   conflict_in    the first conflicting line: the lowest party's, since a party has one line of a cell at most
+--   vacant_in      the party's lowest Invalid way, as a line
 --   own_line_in    the party's line of the cell
 --   after_last_in  the party d places after the one after the last granted, round past the highest to 0
 --   next_waiting   the first such party that waits for the cell
---   served_at   the party that has the cell's turn, or else the next that waits
+--   served_at      the party that has the cell's turn, or else the next that waits
 use Rattle.std.specs.Prelude.{ℕ, ◌+◌, ◌*◌, ◌%◌, not, List, Some, None, Option, slice_index_or}
 use Rattle.std.specs.Option.{option_map}
 use Rattle.tables.specs.declared.line.Line.{Line}

@@ -1,12 +1,12 @@
 -- The steps: what each call does to the state of a bench, and what it answers
 -- A call makes its checks in rising order of the refusals' numbers; the first that fails refuses and leaves the state.
---   need       the first check that fails gives its refusal
+--   need           the first check that fails gives its refusal
 --   queue, hit, turn_to, send, grant, clear, close   the moves that the steps are made of
 --   own_hit, conflict, vacant, own_line, whose   the searches of a state
---   step       a call, as state and answer
---   made       the state that a make leaves
---   taken      a call on the tables as they are
---   events, final   the calls of a run with their answers, and the state that it ends in
+--   step           a call, as state and answer
+--   made           the state that a make leaves
+--   taken          a call on the tables as they are
+--   events, final  the calls of a run with their answers, and the state that it ends in
 use Rattle.std.specs.Prelude.{ℕ, zero, suc, ◌+◌, ◌-◌, ◌*◌, ◌/◌, Bool, true, false, cond, ◌&&◌, List, [], ◌∷◌, length, replicate, Some, None, Option, ◌==◌, nat_le, nat_lt, slice_set}
 use Rattle.tables.specs.declared.line.Line.{Line}
 use Rattle.tables.specs.declared.line.Line.TheVariants.{Invalid}

@@ -1,10 +1,10 @@
 -- The words of a notation
---   Scale      values that are written as numbers: the number of each, and the range that has them
---   natural    the numbers up to a greatest
---   counts     what a total is: 0 to 2^32 - 1
---   deltas     what is added to a total: -2^31 to 2^31 - 1
---   Writes     that a field writes a number of a scale's range
---   Reads      that a field was read on a scale: as the value with its number, and refused if it writes none
+--   Scale    values that are written as numbers: the number of each, and the range that has them
+--   natural  the numbers up to a greatest
+--   counts   what a total is: 0 to 2^32 - 1
+--   deltas   what is added to a total: -2^31 to 2^31 - 1
+--   Writes   that a field writes a number of a scale's range
+--   Reads    that a field was read on a scale: as the value with its number, and refused if it writes none
 use Rattle.std.specs.Prelude.{◌≡◌, ℕ, ◌-◌, ◌^◌, List, ℤ, pos, negsuc, ◌≤ℤ◌, Result, MatchResult}
 use Rattle.std.specs.Str.Parse.{IsNumeral, without_leading_sign, signed_digits_value}
 use Rattle.operation.specs.declared.Count.{Count}

@@ -1,7 +1,7 @@
 -- The words of an update operation
---   Algebra    what an operation computes: its neutral partial, the join of partials, a partial's action on a value
---   Lawful     the five laws between them
---   applied    a list of values once a partial has acted on the one at a place
+--   Algebra  what an operation computes: its neutral partial, the join of partials, a partial's action on a value
+--   Lawful   the five laws between them
+--   applied  a list of values once a partial has acted on the one at a place
 use Rattle.std.specs.Prelude.{◌≡◌, ℕ, zero, suc, List, [], ◌∷◌}
 
 pub record Algebra (V P : Type 0) : Type 0 where

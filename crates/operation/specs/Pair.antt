@@ -1,5 +1,5 @@
 -- The words of a pair of operations
---   paired    two algebras side by side, part by part
+--   paired  two algebras side by side, part by part
 use Rattle.operation.specs.Algebra.{Algebra}
 
 abbrev pub paired : {V W P Q : Type 0} → Algebra V P → Algebra W Q → Algebra (V × W) (P × Q)

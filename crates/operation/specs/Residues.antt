@@ -1,6 +1,6 @@
 -- The words of numbers of 32 bits
---   residue    the number below 2^32 that differs from an integer by a multiple of 2^32
---   wrapped    (the library's) the number from -2^31 up, below 2^31, that differs from it by such a multiple
+--   residue   the number below 2^32 that differs from an integer by a multiple of 2^32
+--   int_wrap  (the library's) the number from -2^31 up, below 2^31, that differs from it by such a multiple
 use Rattle.std.specs.Prelude.{ℕ, ◌^◌, ◌<◌, ℤ, pos, negsuc, neg_ℤ, ◌≤ℤ◌, ◌<ℤ◌, unsigned_abs}
 use Rattle.std.proofs.Common.{arith}
 use Rattle.std.specs.Int.{int_rem_euclid, int_wrap, w32}

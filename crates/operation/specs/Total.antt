@@ -1,8 +1,8 @@
 -- The words of a total
---   counted    an integer as a count: modulo 2^32
---   stepped    an integer as a delta: wrapped to a signed number of 32 bits
---   unmoved    the delta 0
---   totals     deltas are joined by their sum, and a delta is added to the count that it acts on
+--   counted  an integer as a count: modulo 2^32
+--   stepped  an integer as a delta: wrapped to a signed number of 32 bits
+--   unmoved  the delta 0
+--   totals   deltas are joined by their sum, and a delta is added to the count that it acts on
 use Rattle.std.specs.Prelude.{ℤ, pos, ◌+ℤ◌}
 use Rattle.std.specs.Int.{int_wrap, w32}
 use Rattle.operation.specs.Algebra.{Algebra}

@@ -1,9 +1,9 @@
 -- The words of a set of parties
---   has        a party is in the set
---   nobody     the empty set, and is_nobody the test for it
---   with       the set and one party more
---   without    the set and one party less
---   lowest_from the lowest party of the set from i on, and lowest that of the whole set
+--   has          a party is in the set
+--   nobody       the empty set, and is_nobody the test for it
+--   with         the set and one party more
+--   without      the set and one party less
+--   lowest_from  the lowest party of the set from i on, and lowest that of the whole set
 use Rattle.std.specs.Prelude.{ℕ, ◌+◌, ◌-◌, ◌/◌, ◌%◌, ◌^◌, Bool, Option, ◌==◌, bit_or, bit_xor}
 use Rattle.party_set.specs.Searches.{first}
 use Rattle.party_set.specs.declared.PartySet.{PartySet}

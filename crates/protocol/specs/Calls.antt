@@ -1,5 +1,5 @@
 -- What a public call does
---   Takes      the call takes the bench from one state to another and gives the answer: exactly the step of the rules
+--   Takes  the call takes the bench from one state to another and gives the answer: exactly the step of the rules
 use Rattle.std.specs.Prelude.{◌≡◌, ℕ}
 use Rattle.operation.specs.Algebra.{Algebra}
 use Rattle.victim.specs.Rules.{Rule}

@@ -1,11 +1,11 @@
 -- The words of cutting
---   parts       what the bytes of one kind cut a text into: each ends a part and starts the next
---   trimmed     parts without an empty last one
---   placed      parts with their places, the first at a given one
---   lines       the lines of a script: each ends with a line feed, which the last may lack
---   fields      the fields of a line with their places: single spaces cut them
+--   parts        what the bytes of one kind cut a text into: each ends a part and starts the next
+--   trimmed      parts without an empty last one
+--   placed       parts with their places, the first at a given one
+--   lines        the lines of a script: each ends with a line feed, which the last may lack
+--   fields       the fields of a line with their places: single spaces cut them
 --   fields_from  those that begin at a place or after it, of which there are none past the line's end
---   other       whether a byte is not of a kind
+--   other        whether a byte is not of a kind
 use Rattle.std.specs.Prelude.{ℕ, ◌+◌, Bool, cond, not, List, [], ◌∷◌, length, drop, ◌==◌, nat_le}
 
 abbrev pub onto : ℕ → List (List ℕ) → List (List ℕ)

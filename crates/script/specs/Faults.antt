@@ -1,7 +1,7 @@
 -- The words of faults
---   number_of   the number that a cause is printed as
---   cause_of    the cause of what is wrong with a field
---   to_line     a field's fault as its line's
+--   number_of  the number that a cause is printed as
+--   cause_of   the cause of what is wrong with a field
+--   to_line    a field's fault as its line's
 --   broken     the fault of a script that describes no bench or is too long
 use Rattle.std.specs.Prelude.{ℕ}
 use Rattle.script.specs.declared.faults.Wrong.{Wrong}

@@ -1,10 +1,10 @@
 -- The words of fields
---   Seen       a field as mathematics: a word, a number or a missing one, with its place
---   seen       a field of the code, so
---   classed    what a field of these bytes at a place is
---   first      the first of the fields to come; where there is none, one is missing at the line's end
---   left       the fields that a reader of them has still to give
---   end        its line's length
+--   Seen     a field as mathematics: a word, a number or a missing one, with its place
+--   seen     a field of the code, so
+--   classed  what a field of these bytes at a place is
+--   first    the first of the fields to come; where there is none, one is missing at the line's end
+--   left     the fields that a reader of them has still to give
+--   end      its line's length
 use Rattle.std.specs.Prelude.{ℕ, List, [], ◌∷◌, length, ℤ, Some, None, Option}
 use Rattle.script.specs.Cuts.{fields_from}
 use Rattle.script.specs.Numbers.{whole_of}

@@ -1,6 +1,6 @@
 -- The words of the first line
---   head_from   the bench that it describes
---   bench_of    the bench of a first line; a line with any wrong field describes none
+--   head_from  the bench that it describes
+--   bench_of   the bench of a first line; a line with any wrong field describes none
 use Rattle.std.specs.Prelude.{ℕ, List, Ok, Err, Result}
 use Rattle.script.specs.Lines.{Rest, opened, word_from, natural_from, then, last}
 use Rattle.script.specs.Words.{opening_of, kind_of, ranking_of}

@@ -1,20 +1,20 @@
 -- The words of a line's reader
---   Rest         what it has still to read: the line's number and length, and the fields to come
---   opened       all of a line
---   rest         a reader of the code, so
---   next         the next field
---   passed       the rest without it
---   fault        what is wrong at a place of the line
+--   Rest          what it has still to read: the line's number and length, and the fields to come
+--   opened        all of a line
+--   rest          a reader of the code, so
+--   next          the next field
+--   passed        the rest without it
+--   fault         what is wrong at a place of the line
 --   word_at       a field as one of the words that are due
 --   number_at     as a number of a range
 --   end_at        as none, for the line is to end
 --   word_from     the next field as one of the words that are due, and the rest
 --   number_from   the next field as a number of a range, and the rest
---   mapped       what was read, turned into something else
+--   mapped        what was read, turned into something else
 --   natural_from  as `number_from`, for a range without signs
 --   end_from      the end of the line
---   then         what is read first decides what is read next; a fault ends it
---   last         the end of the line, after which this is the answer
+--   then          what is read first decides what is read next; a fault ends it
+--   last          the end of the line, after which this is the answer
 use Rattle.std.specs.Prelude.{ℕ, cond, ◌&&◌, List, length, drop, ℤ, pos, Some, None, Ok, Err, Option, Result, int_le, unsigned_abs}
 use Rattle.script.specs.Cuts as cuts
 use Rattle.script.specs.Fields.{Seen, word, number, missing, first, left, end}

@@ -1,10 +1,10 @@
 -- The words of numbers
 --   leads_with_zero  that a zero leads a text and is not all of it: no number is written so
---   natural_of      the number of at most 64 bits that a text writes: a text writes a number if it is that number's own decimal
---   above          a number without a sign
---   below          a number after a minus sign, which 0 does not take
---   whole_of        the number that a text writes with a sign or without
---   Natural        `natural_of` as a relation
+--   natural_of       the number of at most 64 bits that a text writes: a text writes a number if it is that number's own decimal
+--   above            a number without a sign
+--   below            a number after a minus sign, which 0 does not take
+--   whole_of         the number that a text writes with a sign or without
+--   Natural          `natural_of` as a relation
 use Rattle.std.specs.Prelude.{◌≡◌, ℕ, ◌-◌, ◌^◌, ◌≤◌, Bool, cond, ◌&&◌, List, length, drop, ℤ, pos, neg_ℤ, Some, None, decimal, Option, ◌==◌, ◌≢◌, nat_le, nat_lt, slice_index}
 use Rattle.std.specs.Str.Parse.{digits_value}
 use Rattle.std.specs.Str.{bytes_eq}

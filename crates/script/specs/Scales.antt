@@ -1,7 +1,7 @@
 -- The words of values and partials, each read from one field
---   counts     what a total is: 0 to 2^32 - 1
---   deltas     what is added to a total: -2^31 to 2^31 - 1
---   naturals   numbers without a sign, up to a greatest
+--   counts    what a total is: 0 to 2^32 - 1
+--   deltas    what is added to a total: -2^31 to 2^31 - 1
+--   naturals  numbers without a sign, up to a greatest
 use Rattle.std.specs.Prelude.{ℕ, ◌-◌, ◌^◌, pos, neg_ℤ, Result}
 use Rattle.operation.specs.Total.{counted, stepped}
 use Rattle.operation.specs.declared.Count.{Count}

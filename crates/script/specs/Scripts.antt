@@ -3,8 +3,8 @@
 --   head_of     the same with the fault of a script that has none
 --   calls_from  the calls of lines, of which the first has a number, up to the first line with a fault, and that fault
 --   calls_of    the calls of the lines after the first, up to the first line with a fault, and that fault, if any;
---              the call with index i is that of line i + 2, for each line says one
---   Added      that the calls were added to a list, and the fault answered; or that memory was wanting
+--               the call with index i is that of line i + 2, for each line says one
+--   Added       that the calls were added to a list, and the fault answered; or that memory was wanting
 use Rattle.std.specs.Prelude.{◌≡◌, ℕ, ◌+◌, cond, List, [], ◌∷◌, ◌++◌, length, drop, Some, None, Ok, Err, Option, Result, nat_le}
 use Rattle.model.specs.declared.Call.{Call}
 use Rattle.script.specs.Calls.{call_of}

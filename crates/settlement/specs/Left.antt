@@ -1,6 +1,6 @@
 -- What an abandoned bench leaves undone
---   owes       whether a line holds what the home does not have: it is Update-only or Modified
---   owed       how many lines of a table owe something
+--   owes  whether a line holds what the home does not have: it is Update-only or Modified
+--   owed  how many lines of a table owe something
 use Rattle.std.specs.Prelude.{ℕ, ◌+◌, List, [], ◌∷◌}
 use Rattle.tables.specs.declared.line.Line.{Line}
 use Rattle.tables.specs.declared.line.Line.TheVariants.{Invalid, Shared, UpdateOnly, Modified}

@@ -1,6 +1,6 @@
 -- The making of a bench
---   issued     what a make answers: nothing against it, or its refusal
---   made_or     the state that a make leaves: new tables and a new ledger, or all as it was
+--   issued   what a make answers: nothing against it, or its refusal
+--   made_or  the state that a make leaves: new tables and a new ledger, or all as it was
 use Rattle.std.specs.Prelude.{Some, None, Ok, Err, Option, Result}
 use Rattle.tables.specs.declared.refusal.Refusal.{Refusal}
 use Rattle.model.specs.Bench.{Bench, State}

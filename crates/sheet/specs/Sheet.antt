@@ -1,17 +1,17 @@
 -- Nine worked cases of the bench and its parts, as the definitions have them
---   count      a number as the value of a total
---   delta      a number as the partial of a total
---   Script     calls, each with the answer that it is to get
---   handed     what a make is handed: tables of p parties, n cells and w ways, a rule, and a home
---   one        the script of case 1, and so on; a later case goes on where an earlier one ended
---   Plays      a run from the making on gets the answers that its script says
---   left       what such a run leaves
---   Played     cases 1 to 6, under a victim rule as it is at first: a total, P = 2, W = 1, N = 2, home 10 and 20
---   Moved      case 7: -5 acting on 3
---   Forgotten  case 8: a combining register over 10 is told to apply 5 and to store 9, and then loads 9
---   refusal    the number of a make's refusal, if it refuses tables of p parties and n cells
---   Limited    case 9: 16 parties and 256 cells pass, and one more of either is refused with 1
---   SheetStands   all nine, the first six under both rules
+--   count        a number as the value of a total
+--   delta        a number as the partial of a total
+--   Script       calls, each with the answer that it is to get
+--   handed       what a make is handed: tables of p parties, n cells and w ways, a rule, and a home
+--   one          the script of case 1, and so on; a later case goes on where an earlier one ended
+--   Plays        a run from the making on gets the answers that its script says
+--   left         what such a run leaves
+--   Played       cases 1 to 6, under a victim rule as it is at first: a total, P = 2, W = 1, N = 2, home 10 and 20
+--   Moved        case 7: -5 acting on 3
+--   Forgotten    case 8: a combining register over 10 is told to apply 5 and to store 9, and then loads 9
+--   refusal      the number of a make's refusal, if it refuses tables of p parties and n cells
+--   Limited      case 9: 16 parties and 256 cells pass, and one more of either is refused with 1
+--   SheetStands  all nine, the first six under both rules
 use Rattle.std.specs.Prelude.{◌≡◌, ℕ, ◌*◌, List, [], ◌∷◌, ◌++◌, map, replicate, pos, neg_ℤ, Some, None, Ok, Option, slice_set}
 use Rattle.std.specs.Option.{option_map}
 use Rattle.operation.specs.Algebra.{applied}

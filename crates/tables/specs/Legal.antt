@@ -1,17 +1,17 @@
 -- When tables are legal: six statements, and the test that decides them
 -- P is the number of registers, N of directory entries and W of ways.
---   line       way w of party p, which is line p × W + w
---   entry      what the directory has of a cell
---   register   what a party's register has
+--   line          way w of party p, which is line p × W + w
+--   entry         what the directory has of a cell
+--   register      what a party's register has
 --   InRange       1: every cell, turn, last party and holder that the tables name exists
 --   SingleLines   2: no party has two lines of one cell
 --   HoldersRight  3: a cell's holders are exactly the parties with a line of it, and the line's state is the phase
 --   PhasesRight   4: a phase is Free exactly without holders, and Modified has one
 --   TurnsWait     5: a turn names a party that waits for that cell
 --   NothingHits   6: no waiting request would hit in its party's lines
---   Legal      the six together
---   legal      the test that decides them
---   fits       P is 1 to 16, N 1 to 256, W 1 to 8, and there are P × W lines
+--   Legal         the six together
+--   legal         the test that decides them
+--   fits          P is 1 to 16, N 1 to 256, W 1 to 8, and there are P × W lines
 use Rattle.std.specs.Prelude.{◌≡◌, ℕ, zero, suc, ◌+◌, ◌*◌, ◌^◌, ◌<◌, Bool, true, false, not, ◌&&◌, ◌||◌, List, length, Some, None, Option, ◌==◌, nat_le, nat_lt, slice_index_or}
 use Rattle.tables.specs.declared.line.Line.{Line}
 use Rattle.tables.specs.declared.line.Line.TheVariants.{Invalid}

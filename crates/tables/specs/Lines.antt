@@ -1,14 +1,14 @@
 -- The words of lines, requests and registers
 --   target     the cell that a request is about
---   is_held     a line is not Invalid
---   cell_of     the cell of a line that is not Invalid
---   is_of       a line holds the cell
---   phase_of    the phase that a line's state stands for
+--   is_held    a line is not Invalid
+--   cell_of    the cell of a line that is not Invalid
+--   is_of      a line holds the cell
+--   phase_of   the phase that a line's state stands for
 --   hits       a line finishes a request as it stands
 --   conflicts  a line has to go home before a request is granted
 --   clashes    the phase is that of lines that conflict with a request
---   is_empty    a register is Empty
---   waits_for   a request for the cell waits in a register
+--   is_empty   a register is Empty
+--   waits_for  a request for the cell waits in a register
 use Rattle.std.specs.Prelude.{ℕ, Bool, true, false, ◌==◌}
 use Rattle.tables.specs.declared.line.Line.{Line}
 use Rattle.tables.specs.declared.line.Line.TheVariants.{Invalid, Shared, UpdateOnly, Modified}

@@ -1,10 +1,10 @@
 -- The words of an order of ways by age, the oldest first
---   times        how often a way stands in an order
---   Whole        every way below 8 stands in the order exactly once
---   newest       the order once a way has been made the newest
---   Renewed      a later order differs only in that the way, wherever it stood, is the newest
+--   times         how often a way stands in an order
+--   Whole         every way below 8 stands in the order exactly once
+--   newest        the order once a way has been made the newest
+--   Renewed       a later order differs only in that the way, wherever it stood, is the newest
 --   oldest_below  the oldest way below a number
---   IsOldest     a way stands in the order and is below the number, and all that are older are not
+--   IsOldest      a way stands in the order and is below the number, and all that are older are not
 use Rattle.std.specs.Prelude.{◌≡◌, ℕ, ◌<◌, ◌≤◌, cond, List, [], ◌∷◌, ◌++◌, Some, None, count_by, Option, ◌==◌, nat_eq, nat_lt}
 use Rattle.std.specs.List.{AllByRecursion}
 

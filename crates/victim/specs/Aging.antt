@@ -1,7 +1,7 @@
 -- The words of the rule that picks by age
---   order_of    the order of a party
---   ways_of     the ways of a party, the oldest first
---   oldest_of   the oldest of the party's first so many ways
+--   order_of   the order of a party
+--   ways_of    the ways of a party, the oldest first
+--   oldest_of  the oldest of the party's first so many ways
 --   IsAnswer   within the limits the answer is a way, the oldest of those, and outside them there is none
 --   aging      the rule: a touch makes a way the newest, a pick answers the oldest and keeps the order
 use Rattle.std.specs.Prelude.{ℕ, cond, List, Some, None, Option, nat_lt, slice_index_or, slice_set}

@@ -1,6 +1,6 @@
 -- The limits of a rule, as tests
---   serves     whether a pick serves the party with so many ways
---   hears      whether a touch serves the way of the party
+--   serves  whether a pick serves the party with so many ways
+--   hears   whether a touch serves the way of the party
 use Rattle.std.specs.Prelude.{ℕ, Bool, ◌&&◌, nat_le, nat_lt}
 
 abbrev pub serves : ℕ → ℕ → Bool

@@ -1,6 +1,6 @@
 -- The words of an order
---   numbered   the ways as they are numbered
---   renewed    an order once a way has been made the newest
+--   numbered  the ways as they are numbered
+--   renewed   an order once a way has been made the newest
 use Rattle.std.specs.Prelude.{ℕ, [], ◌∷◌}
 use Rattle.victim.specs.Ages.{newest}
 use Rattle.victim.specs.Keeping.{whole_first, whole_newest}

@@ -1,5 +1,5 @@
 -- The words of what a rule by age comes to, over all touches so far, the last one first
---   touched_by     the rule after the touches
+--   touched_by    the rule after the touches
 --   used          the ways that a party has used, the last one first; at first as if it had used all, by their numbers
 --   ago           how many uses ago a way was used last
 --   SparesRecent  a pick answers the way whose last use is the longest ago

@@ -1,8 +1,8 @@
 -- The words of a rule that goes round
---   onward     the way after a way, in a round of so many ways
---   pointed    the way that a pointer stands for: the first where the pointer is past the ways
+--   onward      the way after a way, in a round of so many ways
+--   pointed     the way that a pointer stands for: the first where the pointer is past the ways
 --   pointer_of  the pointer of a party
---   rotating   the rule: a pick answers the way at the party's pointer, and moves the pointer on
+--   rotating    the rule: a pick answers the way at the party's pointer, and moves the pointer on
 use Rattle.std.specs.Prelude.{ℕ, ◌+◌, cond, Some, None, Option, ◌==◌, nat_lt, slice_index, slice_set}
 use Rattle.victim.specs.declared.rotate.Rotate.{Rotate}
 use Rattle.victim.specs.Limits.{serves}
