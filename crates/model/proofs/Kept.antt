@@ -177,9 +177,9 @@ module _ {V P R : Type 0} (k : Bench V P R) (sound : Sound k) (K : State V P R �
         recalling-keeps None e = rooming-keeps (vacant k s q) refl (calm_all k s ok a r e)
 
       serving-keeps : (q : ℕ) → q < k.parties → (x : Register V P) → register s q ≡ x → waits_for a x ≡ true → After b (Advance a) (serving k x s a q)
-      serving-keeps q fits Empty e h = inv
-      serving-keeps q fits (Waiting r) e h = recalling-keeps q fits r e (eqb-true (target r) a h) (conflict k s r) refl
-      serving-keeps q fits (Answered v) e h = inv
+      serving-keeps q inside Empty e h = inv
+      serving-keeps q inside (Waiting r) e h = recalling-keeps q inside r e (eqb-true (target r) a h) (conflict k s r) refl
+      serving-keeps q inside (Answered v) e h = inv
 
       advance-for-keeps : (x : Option ℕ) → whose k (entry s a).turn s a ≡ x → After b (Advance a) (advance_for k x s a)
       advance-for-keeps None e = inv

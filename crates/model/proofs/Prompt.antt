@@ -228,8 +228,8 @@ module _ {V P R : Type 0} (k : Bench V P R) (sound : Sound k) (p : ℕ) (low : p
     serving_off a other q (Answered v) e h = unchanged (Advance a) (Refused Illegal) (off_zero a other (Refused Illegal))
 
     advance_for_off : (a : ℕ) → a < k.cells → is_open s.ledger ≡ true → (target r₀ ≡ a → ⊥) → (x : Option ℕ) → whose k (entry s a).turn s a ≡ x → Progress m (Advance a) (advance_for k x s a).1 (advance_for k x s a).0
-    advance_for_off a fits live other None e = unchanged (Advance a) Idle (off_zero a other Idle)
-    advance_for_off a fits live other (Some q) e = serving_off a other q (register s q) refl (whose_waits k s inv.tabled a (entry s a).turn q refl e).1
+    advance_for_off a inside live other None e = unchanged (Advance a) Idle (off_zero a other Idle)
+    advance_for_off a inside live other (Some q) e = serving_off a other q (register s q) refl (whose_waits k s inv.tabled a (entry s a).turn q refl e).1
 
     -- advance of the cell
     module _ (fits : target r₀ < k.cells) (live : is_open s.ledger ≡ true) where

@@ -5,6 +5,7 @@
 mod calls;
 mod shown;
 
+use anyhow::bail;
 use calls::{CELLS, PARTIES, WAYS, contended};
 use history::{Played, Unplayed, run};
 use memory::{Combining, Home, PlainCells};
@@ -12,7 +13,6 @@ use model::{Answer, Call};
 use operation::{Count, Delta, Flags, Operation, Pair, Peak, Total};
 use protocol::abandon;
 use shown::{Shown, answer_text};
-use std::alloc::AllocError;
 use std::process::ExitCode;
 use tables::Ledger;
 use victim::{Oldest, Rotate, Victim};
@@ -87,7 +87,7 @@ fn play<O: Shown, H: Home<O> + Drop, R: Victim + Drop>(
             println!(rt; "refused {number}")?;
             Ok(())
         }
-        Err(Unplayed::OutOfMemory) => Err(AllocError)?,
+        Err(Unplayed::OutOfMemory) => bail!("no memory for the answers"),
     }
 }
 

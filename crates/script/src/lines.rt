@@ -94,7 +94,8 @@ impl<'a> Line<'a> {
 
     // The end of the line.
     pub fn end(&mut self) -> Result<(), FieldFault>
-        ensures { result ≡ (end_from (rest self.old)).0 }
+        ensures value { result ≡ (end_from (rest self.old)).0 }
+        ensures rest { rest self.new ≡ (end_from (rest self.old)).1 }
     {
         let line = self.number;
         match self.fields.next() {

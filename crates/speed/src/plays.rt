@@ -1,12 +1,13 @@
 // The two ways to play the calls: as one run, and call by call through the public calls, which audit every time.
 use super::calls::{CELLS, PARTIES, WAYS};
+use anyhow::bail;
 use history::{Played, Unplayed, run};
 use memory::PlainCells;
 use model::Call;
 use operation::{Count, Delta, Total};
 use protocol::{Ticket, Unsettled, abandon, advance, collect, make, post, relinquish, settle};
 use std::alloc::{AllocError, Global};
-use tables::Ledger;
+use tables::{Ledger, Refusal};
 use victim::Oldest;
 use workbench::{Workbench, row_of};
 
@@ -21,7 +22,11 @@ fn home(heap: Global) -> Result<PlainCells<Total>, AllocError> {
     Ok(PlainCells::new(row_of(Count::new(0), CELLS as usize, heap)?))
 }
 
-pub fn as_one_run(calls: &[Call<Count, Delta>], heap: Global) -> Result<End, AllocError> {
+fn refused(refusal: Refusal) -> anyhow::Result<End> {
+    bail!("the make is refused with {}", refusal.number())
+}
+
+pub fn as_one_run(calls: &[Call<Count, Delta>], heap: Global) -> anyhow::Result<End> {
     let mut home = home(heap)?;
     let mut rule = Oldest::new();
     let mut bench = Workbench::<Count, Delta>::new(PARTIES, WAYS, CELLS, heap)?;
@@ -45,8 +50,8 @@ pub fn as_one_run(calls: &[Call<Count, Delta>], heap: Global) -> Result<End, All
                 cells: home.into_row(),
             })
         }
-        Err(Unplayed::Refused(_)) => Err(AllocError),
-        Err(Unplayed::OutOfMemory) => Err(AllocError),
+        Err(Unplayed::Refused(refusal)) => refused(refusal),
+        Err(Unplayed::OutOfMemory) => bail!("no memory for the answers"),
     }
 }
 
@@ -102,11 +107,11 @@ fn call_once(
     }
 }
 
-pub fn call_by_call(calls: &[Call<Count, Delta>], heap: Global) -> Result<End, AllocError> {
+pub fn call_by_call(calls: &[Call<Count, Delta>], heap: Global) -> anyhow::Result<End> {
     let mut home = home(heap)?;
     let mut rule = Oldest::new();
     let mut bench = Workbench::<Count, Delta>::new(PARTIES, WAYS, CELLS, heap)?;
-    let Ok(ticket) = make::<Total, PlainCells<Total>, Oldest>(
+    let made = make::<Total, PlainCells<Total>, Oldest>(
         bench.lines.as_mut_slice(),
         bench.directory.as_mut_slice(),
         bench.registers.as_mut_slice(),
@@ -114,10 +119,11 @@ pub fn call_by_call(calls: &[Call<Count, Delta>], heap: Global) -> Result<End, A
         &rule,
         &home,
         WAYS as usize,
-    ) else {
-        return Err(AllocError);
+    );
+    let mut kept = match made {
+        Ok(ticket) => Some(ticket),
+        Err(refusal) => return refused(refusal),
     };
-    let mut kept = Some(ticket);
     for call in calls {
         kept = call_once(&mut bench, &mut rule, &mut home, kept, *call);
     }
