@@ -2,26 +2,26 @@
 ghost use Rattle.std.specs.Prelude.{◌≡◌, ◌<◌, ◌≤◌, length};
 ghost use Rattle.model.specs.Searches.{next_waiting};
 
-use super::access::register_at;
-use tables::Register;
+use bench::Bench;
+use operation::Operation;
 
 // The first party that waits for the cell, counted upward from the one after `last`, round past the highest to 0.
-pub fn next_waiting<V: Copy, P: Copy>(
-    registers: &[Register<V, P>],
+pub fn next_waiting<O: Operation, H, R>(
+    bench: &Bench<'_, O, H, R>,
     cell: usize,
     last: usize,
 ) -> Option<usize>
-    requires { (last < length registers.now) × (length registers.now ≤ 16) }
-    ensures { result ≡ next_waiting (length registers.now) registers.now cell last }
+    requires { (last < length bench.now.registers.now) × (length bench.now.registers.now ≤ 16) }
+    ensures { result ≡ next_waiting (length bench.now.registers.now) bench.now.registers.now cell last }
 {
-    let parties = registers.len();
+    let parties = bench.registers.len();
     let mut passed = 0;
     'round: loop {
         if passed == parties {
             break None;
         }
         let party = (last + 1 + passed) % parties;
-        if register_at(registers, party).waits_for(cell) {
+        if bench.register(party).waits_for(cell) {
             break Some(party);
         }
         passed += 1;

@@ -2,8 +2,5 @@ use Rattle.std.proofs.Common.{arith}
 use Rattle.model.proofs.Sized.{ways_within}
 use Rattle.decisions.proofs.decision.decide_for.Goals as goal
 
-pub overflow_mul-party : goal.overflow_mul-party
-overflow_mul-party g c = omega (arith, (ways_within g.O.Operation.algebra c.args.ways c.args.lines.now c.args.directory.now c.args.registers.now c.requires.sizes c.args.party c.requires.within.1).1)
-
-pub find_line-requires : goal.find_line-requires
-find_line-requires g c = (ways_within g.O.Operation.algebra c.args.ways c.args.lines.now c.args.directory.now c.args.registers.now c.requires.sizes c.args.party c.requires.within.1).0
+pub vacant_way-requires : goal.vacant_way-requires
+vacant_way-requires g c = (ways_within g.O.Operation.algebra c.args.bench.now.ways c.args.bench.now.lines.now c.args.bench.now.directory.now c.args.bench.now.registers.now c.requires.in_order.sizes c.args.party c.requires.within.1).0
