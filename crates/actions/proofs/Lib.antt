@@ -1,2 +1,1 @@
 mod Loads
-pub mod States

@@ -1,7 +1,5 @@
 -- What a load says of the list that a home means
-use Rattle.std.proofs.Common.{◌≡◌, ℕ, zero, suc, List, [], ◌∷◌, Some, None, Ok, Err, Option, sym, refl, ap, arith}
-use Rattle.tables.specs.declared.refusal.Refusal.{Refusal as TableRefusal}
-use Rattle.tables.specs.declared.refusal.Refusal.TheVariants.{Place}
+use Rattle.std.proofs.Common.{◌≡◌, ℕ, zero, suc, List, [], ◌∷◌, Some, None, Ok, Err, sym, refl, ap, arith}
 use Rattle.operation.specs.Algebra.{Algebra}
 use Rattle.memory.specs.declared.Refusal.{Refusal}
 use Rattle.memory.specs.Homes.{loaded}
@@ -24,11 +22,3 @@ loaded_none (x ∷ xs) (suc i) n e = loaded_none xs i n e
 -- what a read is offered
 pub offered_read : {V P : Type 0} (op : Algebra V P) (xs : List V) (r : Request V P) (a : ℕ) → r ≡ Read a → offered (granted_line op r (lookup xs (target r))) ≡ offered (granted_line op (Read a) (lookup xs a))
 offered_read op xs r a e = ap (λ z. offered (granted_line op z (lookup xs (target z)))) e
-
-pub offered_ok : {X : Type 0} (u : Option X) (x : X) → Ok x ≡ offered u → u ≡ Some x
-offered_ok None x e = absurd (let z : ◌≡◌ {A = ℕ} 0 1 = cc in omega arith)
-offered_ok (Some y) x e = let z : x ≡ y = cc in ap Some (sym z)
-
-pub offered_err : {X : Type 0} (u : Option X) (n : TableRefusal) → Err n ≡ offered u → (u ≡ None) × (n ≡ Place)
-offered_err None n e = (refl, cc)
-offered_err (Some y) n e = absurd (let z : ◌≡◌ {A = ℕ} 0 1 = cc in omega arith)

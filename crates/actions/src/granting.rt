@@ -1,13 +1,13 @@
 // Granting a request.
-ghost use Rattle.std.specs.Prelude.{◌≡◌, ◌+◌, ◌-◌, ◌*◌, ◌^◌, ◌<◌, ◌≤◌, length, Some, slice_index_or, slice_set};
-ghost use Rattle.tables.specs.declared.register.Register.TheVariants.{Answered};
+ghost use Rattle.std.specs.Prelude.{◌≡◌, ◌<◌, length, slice_index_or, slice_set};
 ghost use Rattle.tables.specs.Legal.{blank};
 ghost use Rattle.tables.specs.Lines.{phase_of, target};
 ghost use Rattle.model.specs.Bench.{lookup, granted_line, value_in, answer_to};
 ghost use Rattle.model.specs.Steps.{joined_by};
+ghost use Rattle.bench.specs.Lent.{SameLoans, seen};
 ghost use Rattle.actions.specs.Grants.{offered};
 
-use decisions::entry_at;
+use bench::Bench;
 use memory::Home;
 use operation::Operation;
 use tables::{Entry, Line, Refusal, Request};
@@ -48,20 +48,21 @@ pub fn answer_to<V: Copy, P: Copy>(request: Request<V, P>, line: Line<V, P>) -> 
 }
 
 // The party becomes a holder of the cell by the line, gives up its turn and is the last one granted.
-pub(crate) fn add_holder<V: Copy, P: Copy>(
-    directory: &mut [Entry],
+pub(crate) fn add_holder<O: Operation, H: Home<O>, R>(
+    bench: &mut Bench<'_, O, H, R>,
     cell: usize,
-    line: Line<V, P>,
+    line: Line<O::Value, O::Partial>,
     party: usize,
 )
-    requires { (cell < length directory.old) × (party < 16) }
-    ensures { directory.new ≡ slice_set directory.old cell (joined_by (slice_index_or directory.old cell (blank 0)) (phase_of line) party) }
+    requires { (cell < length bench.old.directory.now) × (party < 16) }
+    ensures state { seen H.Home.meaning bench.new ≡ record (seen H.Home.meaning bench.old) { directory = slice_set bench.old.directory.now cell (joined_by (slice_index_or bench.old.directory.now cell (blank 0)) (phase_of line) party) } }
+    ensures lent { SameLoans bench.old bench.new }
 {
-    let entry = entry_at(directory, cell);
-    directory[cell] = Entry {
+    let entry = Entry {
         phase: line.phase(),
-        holders: entry.holders.with(party),
+        holders: bench.entry(cell).holders.with(party),
         turn: None,
         last: party,
     };
+    bench.set_entry(cell, entry);
 }

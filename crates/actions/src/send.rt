@@ -1,23 +1,24 @@
 // Sending a line home.
-ghost use Rattle.std.specs.Prelude.{◌≡◌, ◌/◌, ◌<◌, ◌≤◌, true, length, slice_index_or, slice_set};
+ghost use Rattle.std.specs.Prelude.{◌≡◌, ◌/◌, ◌<◌, ◌≤◌, length, slice_index_or, slice_set};
 ghost use Rattle.tables.specs.declared.line.Line.TheVariants.{Invalid};
-ghost use Rattle.tables.specs.Lines.{is_held, cell_of};
+ghost use Rattle.tables.specs.Lines.{cell_of};
 ghost use Rattle.tables.specs.Legal.{blank};
 ghost use Rattle.model.specs.Bench.{sent_home};
-ghost use Rattle.model.specs.Steps.{left_by};
+ghost use Rattle.model.specs.Steps.{left_by, send};
+ghost use Rattle.bench.specs.Lent.{SameLoans, seen, terms};
 
-use decisions::{entry_at, line_at};
+use bench::Bench;
 use memory::Home;
 use operation::Operation;
-use tables::{Entry, Line, Phase};
+use tables::{Line, Phase};
+use victim::Victim;
 
 // What a line holds reaches the home: an apply for Update-only, a store for Modified, neither for Shared.
 fn write_back<O: Operation, H: Home<O>>(home: &mut H, line: Line<O::Value, O::Partial>)
     ensures { H.Home.meaning home.new ≡ sent_home O.Operation.algebra (H.Home.meaning home.old) line }
 {
     match line {
-        Line::Invalid => {}
-        Line::Shared { .. } => {}
+        Line::Invalid | Line::Shared { .. } => {}
         Line::UpdateOnly { cell, partial } => {
             let _ = home.apply(cell, partial);
         }
@@ -31,43 +32,37 @@ fn write_back<O: Operation, H: Home<O>>(home: &mut H, line: Line<O::Value, O::Pa
 fn cell_of<V: Copy, P: Copy>(line: Line<V, P>) -> usize
     ensures { result ≡ cell_of line }
 {
-    match line {
-        Line::Invalid => 0,
-        Line::Shared { cell, .. } => cell,
-        Line::UpdateOnly { cell, .. } => cell,
-        Line::Modified { cell, .. } => cell,
-    }
+    line.cell().unwrap_or(0)
 }
 
 // The party stops being a holder of the cell; without holders the phase is Free.
-fn drop_holder(directory: &mut [Entry], cell: usize, party: usize)
-    requires { (cell < length directory.old) × (party < 16) }
-    ensures { directory.new ≡ slice_set directory.old cell (left_by (slice_index_or directory.old cell (blank 0)) party) }
+fn drop_holder<O: Operation, H: Home<O>, R>(
+    bench: &mut Bench<'_, O, H, R>,
+    cell: usize,
+    party: usize,
+)
+    requires { (cell < length bench.old.directory.now) × (party < 16) }
+    ensures state { seen H.Home.meaning bench.new ≡ record (seen H.Home.meaning bench.old) { directory = slice_set bench.old.directory.now cell (left_by (slice_index_or bench.old.directory.now cell (blank 0)) party) } }
+    ensures lent { SameLoans bench.old bench.new }
 {
-    let mut entry = entry_at(directory, cell);
+    let mut entry = bench.entry(cell);
     entry.holders = entry.holders.without(party);
     if entry.holders.is_empty() {
         entry.phase = Phase::Free;
     }
-    directory[cell] = entry;
+    bench.set_entry(cell, entry);
 }
 
 // Line i goes home, and its party is no longer a holder of its cell.
-pub fn send_home<O: Operation, H: Home<O>>(
-    lines: &mut [Line<O::Value, O::Partial>],
-    directory: &mut [Entry],
-    home: &mut H,
-    ways: usize,
-    i: usize,
-)
-    requires sizes { (i < length lines.old) × ((1 ≤ ways) × (i / ways < 16)) }
-    requires listed { cell_of (slice_index_or lines.old i Invalid) < length directory.old }
-    ensures lines { lines.new ≡ slice_set lines.old i Invalid }
-    ensures directory { directory.new ≡ slice_set directory.old (cell_of (slice_index_or lines.old i Invalid)) (left_by (slice_index_or directory.old (cell_of (slice_index_or lines.old i Invalid)) (blank 0)) (i / ways)) }
-    ensures home { H.Home.meaning home.new ≡ sent_home O.Operation.algebra (H.Home.meaning home.old) (slice_index_or lines.old i Invalid) }
+pub fn send_home<O: Operation, H: Home<O>, R: Victim>(bench: &mut Bench<'_, O, H, R>, i: usize)
+    requires sizes { (i < length bench.old.lines.now) × ((1 ≤ bench.old.ways) × (i / bench.old.ways < 16)) }
+    requires listed { cell_of (slice_index_or bench.old.lines.now i Invalid) < length bench.old.directory.now }
+    ensures state { seen H.Home.meaning bench.new ≡ send (terms O.Operation.algebra R.Victim.rule H.Home.meaning bench.old) (seen H.Home.meaning bench.old) i bench.old.ledger.now bench.old.rule.now }
+    ensures lent { SameLoans bench.old bench.new }
 {
-    let line = line_at(lines, i);
-    write_back::<O, H>(home, line);
-    lines[i] = Line::Invalid;
-    drop_holder(directory, cell_of(line), i / ways);
+    let line = bench.line(i);
+    write_back::<O, H>(bench.home, line);
+    bench.set_line(i, Line::Invalid);
+    let party = i / bench.ways;
+    drop_holder(bench, cell_of(line), party);
 }
