@@ -1,10 +1,10 @@
 // Sending a line home.
-ghost use Rattle.std.specs.Prelude.{◌≡◌, ◌/◌, ◌<◌, ◌≤◌, length, slice_index_or, slice_set};
+ghost use Rattle.std.specs.Prelude.{◌≡◌, ◌+◌, ◌/◌, ◌^◌, ◌<◌, ◌≤◌, length, slice_index_or, slice_set};
 ghost use Rattle.tables.specs.declared.line.Line.TheVariants.{Invalid};
 ghost use Rattle.tables.specs.Lines.{cell_of};
 ghost use Rattle.tables.specs.Legal.{blank};
 ghost use Rattle.model.specs.Bench.{sent_home};
-ghost use Rattle.model.specs.Steps.{left_by, send};
+ghost use Rattle.model.specs.Steps.{left_by, send, yield_more};
 ghost use Rattle.bench.specs.Lent.{SameLoans, seen, terms};
 
 use bench::Bench;
@@ -65,4 +65,16 @@ pub fn send_home<O: Operation, H: Home<O>, R: Victim>(bench: &mut Bench<'_, O, H
     bench.set_line(i, Line::Invalid);
     let party = i / bench.ways;
     drop_holder(bench, cell_of(line), party);
+}
+
+// Line i goes home, and that is counted as a yield.
+pub fn yield_line<O: Operation, H: Home<O>, R: Victim>(bench: &mut Bench<'_, O, H, R>, i: usize)
+    requires sizes { (i < length bench.old.lines.now) × ((1 ≤ bench.old.ways) × (i / bench.old.ways < 16)) }
+    requires listed { cell_of (slice_index_or bench.old.lines.now i Invalid) < length bench.old.directory.now }
+    requires counts { bench.old.ledger.now.yields < 2 ^ 63 + 128 }
+    ensures state { seen H.Home.meaning bench.new ≡ send (terms O.Operation.algebra R.Victim.rule H.Home.meaning bench.old) (seen H.Home.meaning bench.old) i (yield_more bench.old.ledger.now) bench.old.rule.now }
+    ensures lent { SameLoans bench.old bench.new }
+{
+    send_home(bench, i);
+    bench.ledger.yields += 1;
 }

@@ -1,9 +1,7 @@
 -- The conflicting line that the directory points to
-use Rattle.std.proofs.Common.{◌≡◌, ℕ, ◌<◌, Bool, true, false, List, length, get_or, Some, None, Option, sym, ap, ◌∙◌}
+use Rattle.std.proofs.Common.{◌≡◌, ℕ, ◌<◌, Bool, true, false, length, get_or, Some, None, Option, sym, ap, ◌∙◌}
 use Rattle.operation.specs.Algebra.{Algebra}
-use Rattle.tables.specs.declared.line.Line.{Line}
 use Rattle.tables.specs.declared.request.Request.{Request}
-use Rattle.tables.specs.declared.register.Register.{Register}
 use Rattle.tables.specs.declared.entry.Entry.{Entry}
 use Rattle.party_set.specs.Sets.{lowest}
 use Rattle.tables.specs.Lines.{target, clashes}

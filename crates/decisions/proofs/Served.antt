@@ -1,8 +1,7 @@
 -- The party that an advance serves exists, and waits for the cell
-use Rattle.std.proofs.Common.{◌≡◌, ℕ, ◌<◌, true, List, length, get_or, Some, sym, ap, ◌∙◌, subst}
+use Rattle.std.proofs.Common.{◌≡◌, ℕ, ◌<◌, true, length, get_or, Some, sym, ap, ◌∙◌, subst}
 use Rattle.std.proofs.lemmas.Bool.{eqb-true}
 use Rattle.operation.specs.Algebra.{Algebra}
-use Rattle.tables.specs.declared.line.Line.{Line}
 use Rattle.tables.specs.declared.request.Request.{Request}
 use Rattle.tables.specs.declared.register.Register.{Register}
 use Rattle.tables.specs.declared.register.Register.TheVariants.{Empty, Waiting}

@@ -1,5 +1,5 @@
 -- What is known of the action that is decided, in the numbers that performing it asks for
-use Rattle.std.proofs.Common.{◌≡◌, ℕ, ◌+◌, ◌*◌, ◌/◌, ◌^◌, ◌<◌, ◌≤◌, true, ◌&&◌, ltb, List, length, get_or, Some, sym, subst, arith}
+use Rattle.std.proofs.Common.{◌≡◌, ℕ, ◌+◌, ◌*◌, ◌/◌, ◌^◌, ◌<◌, ◌≤◌, true, ◌&&◌, ltb, List, length, get_or, Some, sym, ◌∙◌, subst, arith}
 use Rattle.std.proofs.lemmas.Bool.{and_parts, ltb-true}
 use Rattle.operation.specs.Algebra.{Algebra}
 use Rattle.victim.specs.Rules.{Servable}
@@ -14,15 +14,18 @@ use Rattle.tables.proofs.Tests.{is_of_held}
 use Rattle.party_set.proofs.Searches.{first_some}
 use Rattle.model.specs.Searches.{own_line_in, own_hit_in}
 use Rattle.tables.specs.Ledgers.{counts_low}
-use Rattle.tables.specs.Legal.{Legal, fits}
 use Rattle.model.specs.declared.next.Next.{Next}
 use Rattle.model.specs.declared.next.Next.TheVariants as next
-use Rattle.model.specs.Bench.{bench}
+use Rattle.model.specs.Bench.{Bench as Terms, State, bench}
 use Rattle.model.specs.Decisions.{decided}
 use Rattle.model.proofs.Basics.{owner_below}
 use Rattle.model.proofs.Directory.{owns_div}
 use Rattle.model.proofs.Decisions.{Apt, apt, below}
-use Rattle.model.proofs.Sized.{no_rule, bare, bare_tabled, bare_limits, ways_within}
+use Rattle.model.proofs.Sized.{no_rule, bare, bare_tabled, bare_limits}
+use Rattle.model.proofs.Tabled.{Limits, Tabled}
+use Rattle.bench.specs.declared.Bench.{Bench}
+use Rattle.bench.specs.Lent.{InOrder}
+use Rattle.bench.proofs.Orders.{own_ways}
 
 -- counts that are low can rise
 pub record Low (g : Ledger) : Type 0 where
@@ -41,57 +44,74 @@ low g e =
     record { hits = ltb-true _ _ f1.0; grants = ltb-true _ _ f1.1; recalls = ltb-true _ _ f2.1; evictions = ltb-true _ _ f3.1; yields = ltb-true _ _ f4.1 }
 
 -- a line that can be sent home
-pub record Sendable {V P : Type 0} (ways : ℕ) (ls : List (Line V P)) (ds : List Entry) (i : ℕ) : Type 0 where
-  pub place : i < length ls
-  pub wide : 1 ≤ ways
-  pub narrow : ways ≤ 8
-  pub party : i / ways < 16
-  pub cell : cell_of (get_or ls i Invalid) < length ds
+pub record Sendable {O H R V P : Type 0} (b : Bench O H R V P) (i : ℕ) : Type 0 where
+  pub place : i < length b.lines.now
+  pub wide : 1 ≤ b.ways
+  pub narrow : b.ways ≤ 8
+  pub party : i / b.ways < 16
+  pub cell : cell_of (get_or b.lines.now i Invalid) < length b.directory.now
 
-module _ {V P : Type 0} (op : Algebra V P) (ways : ℕ) (ls : List (Line V P)) (ds : List Entry) (rs : List (Register V P))
-    (sizes : fits ways ls ds rs ≡ true) (legal : Legal ways ls ds rs) where
-  pub sendable : (i : ℕ) → i < length rs * ways → is_held (get_or ls i Invalid) ≡ true → Sendable ways ls ds i
-  sendable i l h =
-      let k = bench op no_rule ways (bare ls ds rs) in
-      let t = bare_tabled op ways ls ds rs sizes legal in
-      let f = bare_limits op ways ls ds rs sizes in
-      record {
-        place = omega (arith, f.1);
-        wide = f.0.ways_low;
-        narrow = f.0.ways_high;
-        party = omega (arith, f.0.parties_high, below k (bare ls ds rs) t i (i / ways) (owns_div ways i f.0.ways_low) l);
-        cell = t.within i h;
-      }
+module _ {O H R V P : Type 0} (op : Algebra V P) (b : Bench O H R V P) (ok : InOrder b) where
+  abbrev ways : ℕ
+  ways = b.ways
+
+  abbrev ls : List (Line V P)
+  ls = b.lines.now
+
+  abbrev ds : List Entry
+  ds = b.directory.now
+
+  abbrev rs : List (Register V P)
+  rs = b.registers.now
+
+  abbrev tables : State V P (Unit {0})
+  tables = bare ls ds rs
+
+  abbrev k : Terms V P (Unit {0})
+  k = bench op no_rule ways tables
+
+  t : Tabled k tables
+  t = bare_tabled op ways ls ds rs ok.sizes ok.legal
+
+  f : Limits k × (length ls ≡ length rs * ways)
+  f = bare_limits op ways ls ds rs ok.sizes
+
+  pub sendable : (i : ℕ) → i < length rs * ways → is_held (get_or ls i Invalid) ≡ true → Sendable b i
+  sendable i l h = record {
+    place = omega (arith, f.1);
+    wide = f.0.ways_low;
+    narrow = f.0.ways_high;
+    party = omega (arith, f.0.parties_high, below k tables t i (i / ways) (owns_div ways i f.0.ways_low) l);
+    cell = t.within i h;
+  }
 
   -- the party's own line of a cell
-  pub own_sendable : (p a i : ℕ) → p < length rs → own_line_in ways ls p a ≡ Some i → Sendable ways ls ds i
+  pub own_sendable : (p a i : ℕ) → p < length rs → own_line_in ways ls p a ≡ Some i → Sendable b i
   own_sendable p a i l e =
-      let f = first_some (λ i. is_of a (get_or ls i Invalid)) (p * ways) ways i e in
-      sendable i (owner_below ways p i (length rs) l (f.0, f.1)) (is_of_held a (get_or ls i Invalid) f.2)
+      let g = first_some (λ j. is_of a (get_or ls j Invalid)) (p * ways) ways i e in
+      sendable i (owner_below ways p i (length rs) l (g.0, g.1)) (is_of_held a (get_or ls i Invalid) g.2)
+
+  -- the party's own line that a request hits
+  pub own_place : (p : ℕ) (r : Request V P) (i : ℕ) → p < length rs → own_hit_in ways ls p r ≡ Some i → (i < length ls) × (p * ways ≤ i) × (p * ways ≤ 128)
+  own_place p r i l e =
+      let g = first_some (λ j. hits r (get_or ls j Invalid)) (p * ways) ways i e in
+      let w = own_ways op b ok p l in
+      (omega (arith, g.1, w.0), g.0, w.1)
 
   module _ (a : ℕ) (n : Next V P) (is : n ≡ decided (length rs) ways ls ds rs a) where
-    fact : Apt (bench op no_rule ways (bare ls ds rs)) (bare ls ds rs) (bare_tabled op ways ls ds rs sizes legal) a n
-    fact = subst (Apt (bench op no_rule ways (bare ls ds rs)) (bare ls ds rs) (bare_tabled op ways ls ds rs sizes legal) a) (sym is) (apt (bench op no_rule ways (bare ls ds rs)) (bare ls ds rs) (bare_tabled op ways ls ds rs sizes legal) a)
+    at : (m : Next V P) → n ≡ m → Apt k tables t a m
+    at m e = subst (Apt k tables t a) (sym is ∙ e) (apt k tables t a)
 
-    at : (m : Next V P) → n ≡ m → Apt (bench op no_rule ways (bare ls ds rs)) (bare ls ds rs) (bare_tabled op ways ls ds rs sizes legal) a m
-    at m e = subst (Apt (bench op no_rule ways (bare ls ds rs)) (bare ls ds rs) (bare_tabled op ways ls ds rs sizes legal) a) e fact
+    pub recall_apt : (q i : ℕ) → n ≡ next.Recall q i → Sendable b i
+    recall_apt q i e = let g = at (next.Recall q i) e in sendable i g.1 g.2
 
-    pub recall_apt : (q i : ℕ) → n ≡ next.Recall q i → Sendable ways ls ds i
-    recall_apt q i e = let f = at (next.Recall q i) e in sendable i f.1 f.2
-
-    pub evict_apt : (q : ℕ) → n ≡ next.Evict q → Servable q ways × (q * ways ≤ 128) × ((w : ℕ) → w < ways → Sendable ways ls ds (q * ways + w))
+    pub evict_apt : (q : ℕ) → n ≡ next.Evict q → Servable q ways × (q * ways ≤ 128) × ((w : ℕ) → w < ways → Sendable b (q * ways + w))
     evict_apt q e =
-        let f = at (next.Evict q) e in
-        let b = bare_limits op ways ls ds rs sizes in
-        let y = ways_within op ways ls ds rs sizes q f.0 in
-        ((omega (arith, f.0, b.0.parties_high), b.0.ways_low, b.0.ways_high), y.1, λ w l. sendable (q * ways + w) (omega (arith, y.0, b.1)) (f.1 w l))
+        let g = at (next.Evict q) e in
+        let y = own_ways op b ok q g.0 in
+        ((omega (arith, g.0, f.0.parties_high), f.0.ways_low, f.0.ways_high), y.1, λ w l. sendable (q * ways + w) (omega (arith, y.0, f.1)) (g.1 w l))
 
     pub grant_apt : (q : ℕ) (r : Request V P) (i : ℕ) → n ≡ next.Grant q r i → (q < length rs) × (q < 16) × (i < length ls) × (q * ways ≤ i) × (q * ways ≤ 128) × (target r ≡ a)
     grant_apt q r i e =
-        let f = at (next.Grant q r i) e in
-        let b = bare_limits op ways ls ds rs sizes in
-        (f.0, omega (arith, f.0, b.0.parties_high), omega (arith, f.2, b.1), f.1.0, (ways_within op ways ls ds rs sizes q f.0).1, f.5)
-
--- the party's own line that a request hits
-pub own_place : {V P : Type 0} (ways : ℕ) (ls : List (Line V P)) (p : ℕ) (r : Request V P) (i : ℕ) → p * ways + ways ≤ length ls → own_hit_in ways ls p r ≡ Some i → (i < length ls) × (p * ways ≤ i)
-own_place ways ls p r i l e = let f = first_some (λ i. hits r (get_or ls i Invalid)) (p * ways) ways i e in (omega (arith, f.1), f.0)
+        let g = at (next.Grant q r i) e in
+        (g.0, omega (arith, g.0, f.0.parties_high), omega (arith, g.2, f.1), g.1.0, (own_ways op b ok q g.0).1, g.5)

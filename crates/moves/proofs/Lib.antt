@@ -1,3 +1,2 @@
 pub mod Aptness
 pub mod Calls
-pub mod Sounds

@@ -1,39 +1,38 @@
 // A post of a request.
-ghost use Rattle.std.specs.Prelude.{◌≡◌, ◌+◌, ◌-◌, ◌*◌, ◌^◌, ◌<◌, ◌≤◌, true, length, None, nat_lt};
+ghost use Rattle.std.specs.Prelude.{◌≡◌, ◌*◌, ◌^◌, ◌<◌, ◌≤◌, length, None, nat_lt, slice_index_or};
+ghost use Rattle.tables.specs.declared.register.Register.TheVariants.{Empty};
 ghost use Rattle.tables.specs.declared.refusal.Refusal.TheVariants.{LedgerClosed, CountTooHigh, NoSuchParty, NoSuchCell, RegisterInUse};
 ghost use Rattle.tables.specs.Ledgers.{is_open, counts_low};
-ghost use Rattle.tables.specs.Legal.{Legal, fits};
+ghost use Rattle.tables.specs.Lines.{is_empty, target};
 ghost use Rattle.model.specs.declared.call.Call.TheVariants.{Post};
-ghost use Rattle.model.specs.Bench.{bench, state, hit_line};
-ghost use Rattle.model.specs.Steps.{need, step, hit};
+ghost use Rattle.model.specs.Bench.{hit_line};
+ghost use Rattle.model.specs.Steps.{need, hit};
+ghost use Rattle.bench.specs.Lent.{InOrder, SameLoans, seen, stepped, terms};
 ghost use Rattle.answers.specs.Answers.{posted};
 ghost use Rattle.moves.specs.Checks.{passes};
 
 use super::checks::check;
 use actions::answer_to;
 use answers::Posted;
-use decisions::{Sought, find_line, is_free, line_at, set_register};
+use bench::Bench;
 use memory::Home;
 use operation::Operation;
-use tables::{Entry, Ledger, Line, Refusal, Register, Request};
+use tables::{Line, Refusal, Register, Request};
 use victim::Victim;
 
-// The checks of a post on legal tables; `free` says that the party's register is Empty.
-fn post_checks(
-    ledger: &Ledger,
-    cells: usize,
-    parties: usize,
+// The checks of a post on legal tables.
+fn post_checks<O: Operation, H, R>(
+    bench: &Bench<'_, O, H, R>,
     party: usize,
-    cell: usize,
-    free: bool,
+    request: &Request<O::Value, O::Partial>,
 ) -> Result<(), Refusal>
-    ensures { result ≡ passes (need (is_open ledger.now) LedgerClosed (need (counts_low ledger.now) CountTooHigh (need (nat_lt party parties) NoSuchParty (need (nat_lt cell cells) NoSuchCell (need free RegisterInUse None))))) }
+    ensures { result ≡ passes (need (is_open bench.now.ledger.now) LedgerClosed (need (counts_low bench.now.ledger.now) CountTooHigh (need (nat_lt party (length bench.now.registers.now)) NoSuchParty (need (nat_lt (target request.now) (length bench.now.directory.now)) NoSuchCell (need (is_empty (slice_index_or bench.now.registers.now party Empty)) RegisterInUse None))))) }
 {
-    check(ledger.is_open(), Refusal::LedgerClosed)?;
-    check(ledger.counts_low(), Refusal::CountTooHigh)?;
-    check(party < parties, Refusal::NoSuchParty)?;
-    check(cell < cells, Refusal::NoSuchCell)?;
-    check(free, Refusal::RegisterInUse)
+    check(bench.ledger.is_open(), Refusal::LedgerClosed)?;
+    check(bench.ledger.counts_low(), Refusal::CountTooHigh)?;
+    check(party < bench.registers.len(), Refusal::NoSuchParty)?;
+    check(request.cell() < bench.directory.len(), Refusal::NoSuchCell)?;
+    check(bench.is_free(party), Refusal::RegisterInUse)
 }
 
 // The line once the request has hit it: a write replaces a Modified value; an update acts on one, or is joined
@@ -73,69 +72,46 @@ fn hit_line<O: Operation>(
 
 // The request is finished by its party's line i.
 fn finish_hit<O: Operation, H: Home<O>, R: Victim>(
-    lines: &mut [Line<O::Value, O::Partial>],
-    directory: &mut [Entry],
-    registers: &mut [Register<O::Value, O::Partial>],
-    ledger: &mut Ledger,
-    rule: &mut R,
-    home: &H,
-    ways: usize,
+    bench: &mut Bench<'_, O, H, R>,
     party: usize,
     request: Request<O::Value, O::Partial>,
     i: usize,
 )
-    requires place { (i < length lines.old) × ((party * ways ≤ i) × (party * ways ≤ 128)) }
-    requires limits { party < length registers.old }
-    requires counts { ledger.old.hits < 2 ^ 63 }
-    ensures { state lines.new directory.new registers.new ledger.new rule.new (H.Home.meaning home.now) ≡ hit (bench O.Operation.algebra R.Victim.rule ways (state lines.old directory.old registers.old ledger.old rule.old (H.Home.meaning home.now))) (state lines.old directory.old registers.old ledger.old rule.old (H.Home.meaning home.now)) party request i }
+    requires place { (i < length bench.old.lines.now) × ((party * bench.old.ways ≤ i) × (party * bench.old.ways ≤ 128)) }
+    requires limits { party < length bench.old.registers.now }
+    requires counts { bench.old.ledger.now.hits < 2 ^ 63 }
+    ensures state { seen H.Home.meaning bench.new ≡ hit (terms O.Operation.algebra R.Victim.rule H.Home.meaning bench.old) (seen H.Home.meaning bench.old) party request i }
+    ensures home { bench.new.home.now ≡ bench.old.home.now }
+    ensures lent { SameLoans bench.old bench.new }
 {
-    let line = line_at(lines, i);
-    lines[i] = hit_line::<O>(request, line);
-    set_register(
-        registers,
-        party,
-        Register::Answered(answer_to(request, line)),
-    );
-    ledger.hits += 1;
-    rule.touch(party, i - party * ways);
+    let line = bench.line(i);
+    bench.set_line(i, hit_line::<O>(request, line));
+    bench.set_register(party, Register::Answered(answer_to(request, line)));
+    bench.ledger.hits += 1;
+    bench.rule.touch(party, i - party * bench.ways);
 }
 
 // Finishes the request at once if a line of its party allows it, or lets it wait.
 pub fn post<O: Operation, H: Home<O>, R: Victim>(
-    lines: &mut [Line<O::Value, O::Partial>],
-    directory: &mut [Entry],
-    registers: &mut [Register<O::Value, O::Partial>],
-    ledger: &mut Ledger,
-    rule: &mut R,
-    home: &H,
-    ways: usize,
+    bench: &mut Bench<'_, O, H, R>,
     party: usize,
     request: Request<O::Value, O::Partial>,
 ) -> Result<Posted, Refusal>
-    requires sizes { fits ways lines.old directory.old registers.old ≡ true }
-    requires legal { Legal ways lines.old directory.old registers.old }
-    ensures answer { posted result ≡ (step (bench O.Operation.algebra R.Victim.rule ways (state lines.old directory.old registers.old ledger.old rule.old (H.Home.meaning home.now))) (state lines.old directory.old registers.old ledger.old rule.old (H.Home.meaning home.now)) (Post party request)).1 }
-    ensures state { state lines.new directory.new registers.new ledger.new rule.new (H.Home.meaning home.now) ≡ (step (bench O.Operation.algebra R.Victim.rule ways (state lines.old directory.old registers.old ledger.old rule.old (H.Home.meaning home.now))) (state lines.old directory.old registers.old ledger.old rule.old (H.Home.meaning home.now)) (Post party request)).0 }
-    ensures legal { Legal ways lines.new directory.new registers.new }
+    requires { InOrder bench.old }
+    ensures answer { posted result ≡ (stepped O.Operation.algebra R.Victim.rule H.Home.meaning bench.old (Post party request)).1 }
+    ensures state { seen H.Home.meaning bench.new ≡ (stepped O.Operation.algebra R.Victim.rule H.Home.meaning bench.old (Post party request)).0 }
+    ensures home { bench.new.home.now ≡ bench.old.home.now }
+    ensures in_order { InOrder bench.new }
+    ensures lent { SameLoans bench.old bench.new }
 {
-    let free = is_free(registers, party);
-    post_checks(
-        ledger,
-        directory.len(),
-        registers.len(),
-        party,
-        request.cell(),
-        free,
-    )?;
-    match find_line(lines, party * ways, ways, Sought::HitBy(request)) {
+    post_checks(bench, party, &request)?;
+    match bench.own_hit(party, request) {
         Some(i) => {
-            finish_hit::<O, H, R>(
-                lines, directory, registers, ledger, rule, home, ways, party, request, i,
-            );
+            finish_hit(bench, party, request, i);
             Ok(Posted::Hit)
         }
         None => {
-            set_register(registers, party, Register::Waiting(request));
+            bench.set_register(party, Register::Waiting(request));
             Ok(Posted::Queued)
         }
     }

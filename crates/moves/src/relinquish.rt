@@ -1,63 +1,55 @@
 // A party gives up its line of a cell.
-ghost use Rattle.std.specs.Prelude.{◌≡◌, true, length, None, nat_le, nat_lt};
+ghost use Rattle.std.specs.Prelude.{◌≡◌, length, None, nat_le, nat_lt};
 ghost use Rattle.tables.specs.declared.refusal.Refusal.TheVariants.{LedgerClosed, HomeTooSmall, CountTooHigh, NoSuchParty, NoSuchCell};
 ghost use Rattle.tables.specs.Ledgers.{is_open, counts_low};
-ghost use Rattle.tables.specs.Legal.{Legal, fits};
 ghost use Rattle.model.specs.declared.call.Call.TheVariants.{Yield};
-ghost use Rattle.model.specs.Bench.{bench, state};
-ghost use Rattle.model.specs.Steps.{need, step};
+ghost use Rattle.model.specs.Steps.{need};
+ghost use Rattle.bench.specs.Lent.{InOrder, SameLoans, seen, stepped};
 ghost use Rattle.answers.specs.Answers.{yielded};
 ghost use Rattle.moves.specs.Checks.{passes};
 
 use super::checks::check;
-use actions::send_home;
-use decisions::{Sought, find_line};
+use actions::yield_line;
+use bench::Bench;
 use memory::Home;
 use operation::Operation;
-use tables::{Entry, Ledger, Line, Refusal, Register};
+use tables::Refusal;
 use victim::Victim;
 
 // The checks of a yield on legal tables.
-fn yield_checks<O: Operation, H: Home<O>>(
-    ledger: &Ledger,
-    home: &H,
-    cells: usize,
-    parties: usize,
+fn yield_checks<O: Operation, H: Home<O>, R>(
+    bench: &Bench<'_, O, H, R>,
     party: usize,
     cell: usize,
 ) -> Result<(), Refusal>
-    ensures { result ≡ passes (need (is_open ledger.now) LedgerClosed (need (nat_le cells (length (H.Home.meaning home.now))) HomeTooSmall (need (counts_low ledger.now) CountTooHigh (need (nat_lt party parties) NoSuchParty (need (nat_lt cell cells) NoSuchCell None))))) }
+    ensures { result ≡ passes (need (is_open bench.now.ledger.now) LedgerClosed (need (nat_le (length bench.now.directory.now) (length (H.Home.meaning bench.now.home.now))) HomeTooSmall (need (counts_low bench.now.ledger.now) CountTooHigh (need (nat_lt party (length bench.now.registers.now)) NoSuchParty (need (nat_lt cell (length bench.now.directory.now)) NoSuchCell None))))) }
 {
-    check(ledger.is_open(), Refusal::LedgerClosed)?;
-    check(cells <= home.cells(), Refusal::HomeTooSmall)?;
-    check(ledger.counts_low(), Refusal::CountTooHigh)?;
-    check(party < parties, Refusal::NoSuchParty)?;
-    check(cell < cells, Refusal::NoSuchCell)
+    check(bench.ledger.is_open(), Refusal::LedgerClosed)?;
+    check(
+        bench.directory.len() <= bench.home.cells(),
+        Refusal::HomeTooSmall,
+    )?;
+    check(bench.ledger.counts_low(), Refusal::CountTooHigh)?;
+    check(party < bench.registers.len(), Refusal::NoSuchParty)?;
+    check(cell < bench.directory.len(), Refusal::NoSuchCell)
 }
 
 // Sends the party's line of the cell home.
 pub fn relinquish<O: Operation, H: Home<O>, R: Victim>(
-    lines: &mut [Line<O::Value, O::Partial>],
-    directory: &mut [Entry],
-    registers: &mut [Register<O::Value, O::Partial>],
-    ledger: &mut Ledger,
-    rule: &mut R,
-    home: &mut H,
-    ways: usize,
+    bench: &mut Bench<'_, O, H, R>,
     party: usize,
     cell: usize,
 ) -> Result<(), Refusal>
-    requires sizes { fits ways lines.old directory.old registers.old ≡ true }
-    requires legal { Legal ways lines.old directory.old registers.old }
-    ensures answer { yielded result ≡ (step (bench O.Operation.algebra R.Victim.rule ways (state lines.old directory.old registers.old ledger.old rule.old (H.Home.meaning home.old))) (state lines.old directory.old registers.old ledger.old rule.old (H.Home.meaning home.old)) (Yield party cell)).1 }
-    ensures state { state lines.new directory.new registers.new ledger.new rule.new (H.Home.meaning home.new) ≡ (step (bench O.Operation.algebra R.Victim.rule ways (state lines.old directory.old registers.old ledger.old rule.old (H.Home.meaning home.old))) (state lines.old directory.old registers.old ledger.old rule.old (H.Home.meaning home.old)) (Yield party cell)).0 }
-    ensures legal { Legal ways lines.new directory.new registers.new }
+    requires { InOrder bench.old }
+    ensures answer { yielded result ≡ (stepped O.Operation.algebra R.Victim.rule H.Home.meaning bench.old (Yield party cell)).1 }
+    ensures state { seen H.Home.meaning bench.new ≡ (stepped O.Operation.algebra R.Victim.rule H.Home.meaning bench.old (Yield party cell)).0 }
+    ensures in_order { InOrder bench.new }
+    ensures lent { SameLoans bench.old bench.new }
 {
-    yield_checks::<O, H>(ledger, home, directory.len(), registers.len(), party, cell)?;
-    match find_line(lines, party * ways, ways, Sought::Of(cell)) {
+    yield_checks(bench, party, cell)?;
+    match bench.own_line(party, cell) {
         Some(i) => {
-            send_home::<O, H>(lines, directory, home, ways, i);
-            ledger.yields += 1;
+            yield_line(bench, i);
             Ok(())
         }
         None => Err(Refusal::NoLine),

@@ -1,4 +1,4 @@
-use Rattle.std.proofs.Common.{rules, tests, refl, ◌≡◌, Bool, List, position}
+use Rattle.std.proofs.Common.{rules, tests, refl}
 use Rattle.std.proofs.lemmas.Iterator.{YieldsList-from_slice}
 use Rattle.std.proofs.lemmas.Iterator.Search.{position_from_yields_List}
 use Rattle.bench.proofs.searches.place_of.Goals as goal

@@ -1,4 +1,3 @@
-use Rattle.std.proofs.Common.{arith}
 use Rattle.model.proofs.Sized.{ways_within}
 use Rattle.decisions.proofs.decision.decide_for.Goals as goal
 
