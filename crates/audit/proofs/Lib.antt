@@ -1,3 +1,5 @@
+pub mod Paired
+pub mod Ways
 pub mod Limits
 pub mod Joins
 pub mod Pass

@@ -3,7 +3,7 @@ ghost use Rattle.std.specs.Prelude.{◌≡◌, ℕ, ◌<◌, ◌≤◌, true, le
 ghost use Rattle.tables.specs.declared.register.Register.TheVariants.{Empty};
 ghost use Rattle.party_set.specs.Sets.{nobody};
 ghost use Rattle.tables.specs.Legal.{blank, asks_within};
-ghost use Rattle.audit.specs.Audit.{turn_waits, free_right, same_parties, entry_right};
+ghost use Rattle.audit.specs.Audit.{turn_waits, free_right, entry_right};
 
 use party_set::PartySet;
 use tables::{Entry, Phase, Register};
@@ -12,23 +12,18 @@ use tables::{Entry, Phase, Register};
 fn asks_within<V: Copy, P: Copy>(register: &Register<V, P>, cells: usize) -> bool
     ensures { result ≡ asks_within cells register.now }
 {
-    match register {
-        Register::Empty => true,
-        Register::Waiting(request) => request.cell() < cells,
-        Register::Answered(_) => true,
-    }
+    register
+        .request()
+        .is_none_or(|request| request.cell() < cells)
 }
 
 // Whether every request that waits is for one of the cells.
 pub fn requests_exist<V: Copy, P: Copy>(registers: &[Register<V, P>], cells: usize) -> bool
     ensures { Decides result ((p : ℕ) → p < length registers.now → asks_within cells (slice_index_or registers.now p Empty) ≡ true) }
 {
-    for register in registers {
-        if !asks_within(register, cells) {
-            return false;
-        }
-    }
-    true
+    registers
+        .iter()
+        .all(|register| asks_within(register, cells))
 }
 
 // Whether a turn, if any, is that of a party that waits for the cell.
@@ -39,27 +34,14 @@ fn turn_waits<V: Copy, P: Copy>(
 ) -> bool
     ensures { result ≡ turn_waits registers.now cell turn }
 {
-    match turn {
-        None => true,
-        Some(party) => party < registers.len() && registers[party].waits_for(cell),
-    }
+    turn.is_none_or(|party| party < registers.len() && registers[party].waits_for(cell))
 }
 
 // Whether the phase is Free exactly where no party is found to have a line.
 fn free_right(phase: Phase, found: PartySet) -> bool
     ensures { result ≡ free_right phase found }
 {
-    match phase {
-        Phase::Free => found.is_empty(),
-        _ => !found.is_empty(),
-    }
-}
-
-// Whether the holders are the parties found to have a line.
-fn same_parties(holders: PartySet, found: PartySet) -> bool
-    ensures { result ≡ same_parties holders found }
-{
-    holders == found
+    (phase == Phase::Free) == found.is_empty()
 }
 
 // Whether the entry is right, where `found` are the parties with a line of its cell.
@@ -71,16 +53,10 @@ fn entry_right<V: Copy, P: Copy>(
 ) -> bool
     ensures { result ≡ entry_right registers.now cell entry found }
 {
-    if entry.last >= registers.len() {
-        return false;
-    }
-    if !same_parties(entry.holders, found) {
-        return false;
-    }
-    if !free_right(entry.phase, found) {
-        return false;
-    }
-    turn_waits(registers, cell, entry.turn)
+    entry.last < registers.len()
+        && entry.holders == found
+        && free_right(entry.phase, found)
+        && turn_waits(registers, cell, entry.turn)
 }
 
 // Whether every entry is right, where `found` are the parties with a line of each cell.
@@ -92,10 +68,7 @@ pub fn directory_right<V: Copy, P: Copy>(
     requires { length directory.now ≤ length found.now }
     ensures { Decides result ((a : ℕ) → a < length directory.now → entry_right registers.now a (slice_index_or directory.now a (blank 0)) (slice_index_or found.now a nobody) ≡ true) }
 {
-    for cell in 0..directory.len() {
-        if !entry_right(registers, cell, directory[cell], found[cell]) {
-            return false;
-        }
-    }
-    true
+    directory.iter().zip(found).enumerate().all(|(cell, (entry, found))| entry_right(
+        registers, cell, *entry, *found,
+    ))
 }

@@ -32,21 +32,16 @@ fn is_legal<V: Copy, P: Copy>(
         return false;
     }
     let mut found = [PartySet::none(); MOST_CELLS];
-    let mut admitted = true;
-    'lines: for party in 0..registers.len() {
-        for way in 0..ways {
-            if !admit(
-                &lines[party * ways + way],
-                party,
-                &registers[party],
-                directory,
-                &mut found,
-            ) {
-                admitted = false;
-                break 'lines;
+    let admitted = 'lines: {
+        for (party, register) in registers.iter().enumerate() {
+            for line in &lines[party * ways..(party + 1) * ways] {
+                if !admit(line, party, register, directory, &mut found) {
+                    break 'lines false;
+                }
             }
         }
-    }
+        true
+    };
     admitted && directory_right(registers, directory, &found)
 }
 

@@ -10,11 +10,9 @@ use tables::{Entry, Line, Phase, Register};
 fn misses<V: Copy, P: Copy>(register: &Register<V, P>, line: &Line<V, P>) -> bool
     ensures { result ≡ misses register.now line.now }
 {
-    match register {
-        Register::Empty => true,
-        Register::Waiting(request) => !line.hits(request),
-        Register::Answered(_) => true,
-    }
+    register
+        .request()
+        .is_none_or(|request| !line.hits(&request))
 }
 
 // Whether a line of the party may join those found of its cell: no party has two, and a Modified line is alone.

@@ -15,7 +15,7 @@ fn within(n: usize, most: usize) -> bool
     ensures value { result ≡ (nat_le 1 n && nat_le n most) }
     ensures bound { MatchBool result (n ≤ most) (Unit {0}) }
 {
-    1 <= n && n <= most
+    (1..=most).contains(&n)
 }
 
 // Whether there are 1 to 16 registers, 1 to 256 entries and 1 to 8 ways, and a line for each party and way.

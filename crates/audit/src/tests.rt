@@ -2,10 +2,10 @@
 // read it.
 use super::audit;
 use party_set::PartySet;
-use tables::{Entry, Line, Phase, Register, Request};
+use tables::{Entry, Line, Phase, Refusal, Register, Request};
 
-// The number of the audit's refusal, and 0 where it is legal.
-fn answer(second: Line<u32, u32>, ways: usize) -> u8 {
+// The audit with such a second line and so many ways, a refusal by its number.
+fn answer(second: Line<u32, u32>, ways: usize) -> Result<(), u8> {
     let first = Line::UpdateOnly {
         cell: 0,
         partial: 5,
@@ -16,20 +16,12 @@ fn answer(second: Line<u32, u32>, ways: usize) -> u8 {
         turn: Some(1),
         last: 0,
     };
-    let free = Entry {
-        phase: Phase::Free,
-        holders: PartySet::none(),
-        turn: None,
-        last: 1,
-    };
     let registers = [
         Register::Empty,
         Register::Waiting(Request::Read { cell: 0 }),
     ];
-    match audit(&[first, second], &[updated, free], &registers, ways) {
-        Ok(()) => 0,
-        Err(refusal) => refusal.number(),
-    }
+    let directory = [updated, Entry::free(1)];
+    audit(&[first, second], &directory, &registers, ways).map_err(Refusal::number)
 }
 
 #[test]
@@ -42,9 +34,9 @@ fn legal_illegal_and_of_wrong_sizes(rt: HostRuntime) {
             },
             1,
         ),
-        0
+        Ok(())
     );
-    assert_eq!(rt; answer(Line::Modified { cell: 0, value: 7 }, 1), 2);
-    assert_eq!(rt; answer(Line::Invalid, 1), 2);
-    assert_eq!(rt; answer(Line::Invalid, 2), 1);
+    assert_eq!(rt; answer(Line::Modified { cell: 0, value: 7 }, 1), Err(2));
+    assert_eq!(rt; answer(Line::Invalid, 1), Err(2));
+    assert_eq!(rt; answer(Line::Invalid, 2), Err(1));
 }

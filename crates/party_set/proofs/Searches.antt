@@ -1,6 +1,7 @@
 -- What a search finds, and a search cut at a place that its loop has come to
 use Rattle.std.proofs.Common.{◌≡◌, ℕ, zero, suc, ◌+◌, ◌-◌, ◌<◌, ◌≤◌, Bool, true, false, cond, Some, None, sym, refl, ap, ◌∙◌, subst, ⊎_elim, arith}
 use Rattle.std.proofs.lemmas.Bool.{cases_eq}
+use Rattle.std.specs.List.{find, range_with_len}
 use Rattle.party_set.specs.Searches.{first}
 
 pub no_some : {X : Type 0} {x : X} → None ≡ Some x → ⊥
@@ -48,3 +49,8 @@ first_next t k n i l h =
 
 pub first_past : (t : ℕ → Bool) (k n i : ℕ) → n ≤ i → first t (k + i) (n - i) ≡ None
 first_past t k n i l = let e : n - i ≡ 0 = omega arith in ap (first t (k + i)) e
+
+-- the search of a range's numbers is that of the same numbers in a list
+pub first_find : (t : ℕ → Bool) (k n : ℕ) → find t (range_with_len k n) ≡ first t k n
+first_find t k zero = refl
+first_find t k (suc n) = ap (cond (t k) (Some k)) (first_find t (k + 1) n ∙ ap (λ j. first t j n) (let up : k + 1 ≡ suc k = omega arith in up))

@@ -4,6 +4,9 @@
 ghost use Rattle.std.specs.Prelude.{◌≡◌, if◌then◌else◌, nat_lt};
 ghost use Rattle.party_set.specs.Sets.{nobody, has, with, without, is_nobody, lowest};
 
+// So many parties have a place in a set.
+const PARTIES: usize = 16;
+
 // Bit p says whether party p is in the set; no other crate sees a bit.
 #[derive(Clone, Copy, PartialEq, Eq, Debug)]
 pub struct PartySet {
@@ -27,14 +30,14 @@ impl PartySet {
     pub fn has(self, party: usize) -> bool
         ensures { result ≡ has self party }
     {
-        party < 16 && (self.members >> party) % 2 == 1
+        party < PARTIES && (self.members >> party) % 2 == 1
     }
 
     // The set with the party; one from 16 on has no place in it.
     pub fn with(self, party: usize) -> PartySet
         ensures { result ≡ (if nat_lt party 16 then with self party else self) }
     {
-        if party < 16 {
+        if party < PARTIES {
             PartySet {
                 members: self.members | 1 << party,
             }
@@ -47,9 +50,9 @@ impl PartySet {
     pub fn without(self, party: usize) -> PartySet
         ensures { result ≡ (if nat_lt party 16 then without self party else self) }
     {
-        if party < 16 {
+        if party < PARTIES {
             PartySet {
-                members: (self.members | 1 << party) ^ 1 << party,
+                members: self.members & !(1 << party),
             }
         } else {
             self
@@ -60,11 +63,6 @@ impl PartySet {
     pub fn lowest(self) -> Option<usize>
         ensures { result ≡ lowest self }
     {
-        for party in 0..16 {
-            if self.has(party) {
-                return Some(party);
-            }
-        }
-        None
+        (0..PARTIES).find(|&party| self.has(party))
     }
 }

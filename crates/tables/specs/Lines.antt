@@ -8,8 +8,9 @@
 --   conflicts  a line has to go home before a request is granted
 --   clashes    the phase is that of lines that conflict with a request
 --   is_empty   a register is Empty
+--   request_of the request that waits in a register
 --   waits_for  a request for the cell waits in a register
-use Rattle.std.specs.Prelude.{ℕ, Bool, true, false, ◌==◌}
+use Rattle.std.specs.Prelude.{ℕ, Bool, true, false, ◌==◌, Some, None, Option}
 use Rattle.tables.specs.declared.line.Line.{Line}
 use Rattle.tables.specs.declared.line.Line.TheVariants.{Invalid, Shared, UpdateOnly, Modified}
 use Rattle.tables.specs.declared.request.Request.{Request}
@@ -97,6 +98,11 @@ abbrev pub is_empty : {V P : Type 0} → Register V P → Bool
 is_empty Empty = true
 is_empty (Waiting r) = false
 is_empty (Answered v) = false
+
+abbrev pub request_of : {V P : Type 0} → Register V P → Option (Request V P)
+request_of Empty = None
+request_of (Waiting r) = Some r
+request_of (Answered v) = None
 
 abbrev pub waits_for : {V P : Type 0} → ℕ → Register V P → Bool
 waits_for a Empty = false

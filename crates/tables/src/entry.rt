@@ -1,4 +1,7 @@
 // What the directory knows of a cell.
+ghost use Rattle.std.specs.Prelude.{◌≡◌};
+ghost use Rattle.tables.specs.Legal.{blank};
+
 use party_set::PartySet;
 
 // The state that all lines of a cell share.
@@ -18,4 +21,18 @@ pub struct Entry {
     pub holders: PartySet,
     pub turn: Option<usize>,
     pub last: usize,
+}
+
+impl Entry {
+    // That of a cell without a holder or a turn, where `last` is the party last granted.
+    pub fn free(last: usize) -> Entry
+        ensures { result ≡ blank last }
+    {
+        Entry {
+            phase: Phase::Free,
+            holders: PartySet::none(),
+            turn: None,
+            last,
+        }
+    }
 }

@@ -1,6 +1,6 @@
 // What a bench has counted, and whether it is still in play.
 ghost use Rattle.std.specs.Prelude.{◌≡◌};
-ghost use Rattle.tables.specs.Ledgers.{is_open, counts_low};
+ghost use Rattle.tables.specs.Ledgers.{counted_nothing, is_open, counts_low};
 
 #[derive(Clone, Copy, PartialEq, Eq, Debug)]
 pub enum Status {
@@ -22,24 +22,39 @@ pub struct Ledger {
 const COUNT_LIMIT: u64 = 1 << 63;
 
 impl Ledger {
+    // One that has counted nothing.
+    pub fn new(status: Status) -> Ledger
+        ensures { result ≡ counted_nothing status }
+    {
+        Ledger {
+            status,
+            hits: 0,
+            grants: 0,
+            recalls: 0,
+            evictions: 0,
+            yields: 0,
+        }
+    }
+
     // Whether calls may still be made.
     pub fn is_open(&self) -> bool
         ensures { result ≡ is_open self.now }
     {
-        match self.status {
-            Status::Open => true,
-            Status::Closed => false,
-        }
+        self.status == Status::Open
     }
 
     // Whether every count is below 2^63.
     pub fn counts_low(&self) -> bool
         ensures { result ≡ counts_low self.now }
     {
-        self.hits < COUNT_LIMIT
-            && self.grants < COUNT_LIMIT
-            && self.recalls < COUNT_LIMIT
-            && self.evictions < COUNT_LIMIT
-            && self.yields < COUNT_LIMIT
+        [
+            self.hits,
+            self.grants,
+            self.recalls,
+            self.evictions,
+            self.yields,
+        ]
+        .iter()
+        .all(|&count| count < COUNT_LIMIT)
     }
 }

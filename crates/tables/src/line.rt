@@ -20,22 +20,14 @@ impl<V: Copy, P: Copy> Line<V, P> {
     pub fn is_held(&self) -> bool
         ensures { result ≡ is_held self.now }
     {
-        match self {
-            Line::Invalid => false,
-            _ => true,
-        }
+        !matches!(self, Line::Invalid)
     }
 
     // Whether it holds the cell.
     pub fn is_of(&self, cell: usize) -> bool
         ensures { result ≡ is_of cell self.now }
     {
-        match self {
-            Line::Invalid => false,
-            Line::Shared { cell: own, .. } => *own == cell,
-            Line::UpdateOnly { cell: own, .. } => *own == cell,
-            Line::Modified { cell: own, .. } => *own == cell,
-        }
+        self.cell() == Some(cell)
     }
 
     // The cell that it holds, if any.
@@ -44,9 +36,9 @@ impl<V: Copy, P: Copy> Line<V, P> {
     {
         match self {
             Line::Invalid => None,
-            Line::Shared { cell, .. } => Some(*cell),
-            Line::UpdateOnly { cell, .. } => Some(*cell),
-            Line::Modified { cell, .. } => Some(*cell),
+            Line::Shared { cell, .. }
+            | Line::UpdateOnly { cell, .. }
+            | Line::Modified { cell, .. } => Some(*cell),
         }
     }
 
@@ -67,11 +59,9 @@ impl<V: Copy, P: Copy> Line<V, P> {
         ensures { result ≡ hits request.now self.now }
     {
         match (self, request) {
-            (Line::Shared { cell, .. }, Request::Read { cell: asked }) => *cell == *asked,
-            (Line::Modified { cell, .. }, Request::Read { cell: asked }) => *cell == *asked,
-            (Line::Modified { cell, .. }, Request::Write { cell: asked, .. }) => *cell == *asked,
-            (Line::UpdateOnly { cell, .. }, Request::Update { cell: asked, .. }) => *cell == *asked,
-            (Line::Modified { cell, .. }, Request::Update { cell: asked, .. }) => *cell == *asked,
+            (Line::Shared { cell, .. }, Request::Read { .. })
+            | (Line::UpdateOnly { cell, .. }, Request::Update { .. })
+            | (Line::Modified { cell, .. }, _) => *cell == request.cell(),
             _ => false,
         }
     }

@@ -5,31 +5,31 @@ ghost use Rattle.tables.specs.Refusals.{number_of};
 #[derive(Clone, Copy, PartialEq, Eq, Debug)]
 pub enum Refusal {
     // P is not 1 to 16, N not 1 to 256, W not 1 to 8, or the lines are not P × W.
-    Sizes,
+    Sizes = 1,
     // The tables are not legal.
-    Illegal,
+    Illegal = 2,
     // The ledger is closed.
-    LedgerClosed,
+    LedgerClosed = 3,
     // The home has fewer than N cells.
-    HomeTooSmall,
+    HomeTooSmall = 4,
     // A count is 2^63 or more.
-    CountTooHigh,
+    CountTooHigh = 5,
     // The party is P or above.
-    NoSuchParty,
+    NoSuchParty = 6,
     // The cell is N or above.
-    NoSuchCell,
+    NoSuchCell = 7,
     // The party's register is not Empty.
-    RegisterInUse,
+    RegisterInUse = 8,
     // The party's register is Empty.
-    RegisterEmpty,
+    RegisterEmpty = 9,
     // The party's register is still Waiting.
-    RegisterWaiting,
+    RegisterWaiting = 10,
     // The party has no line of the cell.
-    NoLine,
+    NoLine = 11,
     // Some register is not Empty.
-    Unfinished,
+    Unfinished = 12,
     // A home's place is outside its cells.
-    Place,
+    Place = 13,
 }
 
 impl Refusal {
@@ -37,20 +37,6 @@ impl Refusal {
     pub fn number(self) -> u8
         ensures { result ≡ number_of self }
     {
-        match self {
-            Refusal::Sizes => 1,
-            Refusal::Illegal => 2,
-            Refusal::LedgerClosed => 3,
-            Refusal::HomeTooSmall => 4,
-            Refusal::CountTooHigh => 5,
-            Refusal::NoSuchParty => 6,
-            Refusal::NoSuchCell => 7,
-            Refusal::RegisterInUse => 8,
-            Refusal::RegisterEmpty => 9,
-            Refusal::RegisterWaiting => 10,
-            Refusal::NoLine => 11,
-            Refusal::Unfinished => 12,
-            Refusal::Place => 13,
-        }
+        self as u8
     }
 }

@@ -1,6 +1,6 @@
 // A party's register: its one request under way, and then its answer.
 ghost use Rattle.std.specs.Prelude.{◌≡◌};
-ghost use Rattle.tables.specs.Lines.{is_empty, waits_for};
+ghost use Rattle.tables.specs.Lines.{is_empty, request_of, waits_for};
 
 use super::request::Request;
 
@@ -16,10 +16,16 @@ impl<V: Copy, P: Copy> Register<V, P> {
     pub fn is_empty(&self) -> bool
         ensures { result ≡ is_empty self.now }
     {
+        matches!(self, Register::Empty)
+    }
+
+    // The request that waits in it, if any.
+    pub fn request(&self) -> Option<Request<V, P>>
+        ensures { result ≡ request_of self.now }
+    {
         match self {
-            Register::Empty => true,
-            Register::Waiting(_) => false,
-            Register::Answered(_) => false,
+            Register::Waiting(request) => Some(*request),
+            _ => None,
         }
     }
 
@@ -27,10 +33,6 @@ impl<V: Copy, P: Copy> Register<V, P> {
     pub fn waits_for(&self, cell: usize) -> bool
         ensures { result ≡ waits_for cell self.now }
     {
-        match self {
-            Register::Empty => false,
-            Register::Waiting(request) => request.cell() == cell,
-            Register::Answered(_) => false,
-        }
+        self.request().is_some_and(|request| request.cell() == cell)
     }
 }

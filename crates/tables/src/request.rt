@@ -17,9 +17,8 @@ impl<V: Copy, P: Copy> Request<V, P> {
         ensures { result ≡ target self.now }
     {
         match self {
-            Request::Read { cell } => *cell,
-            Request::Write { cell, .. } => *cell,
-            Request::Update { cell, .. } => *cell,
+            Request::Read { cell } | Request::Write { cell, .. } | Request::Update { cell, .. } =>
+                *cell,
         }
     }
 
@@ -27,11 +26,11 @@ impl<V: Copy, P: Copy> Request<V, P> {
     pub fn clashes_with(&self, phase: Phase) -> bool
         ensures { result ≡ clashes self.now phase }
     {
-        match (self, phase) {
-            (_, Phase::Free) => false,
-            (Request::Read { .. }, Phase::Shared) => false,
-            (Request::Update { .. }, Phase::UpdateOnly) => false,
-            _ => true,
-        }
+        !matches!(
+            (self, phase),
+            (_, Phase::Free)
+                | (Request::Read { .. }, Phase::Shared)
+                | (Request::Update { .. }, Phase::UpdateOnly)
+        )
     }
 }

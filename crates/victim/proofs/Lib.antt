@@ -1,4 +1,3 @@
 mod Orders
 mod Recent
 mod Renewing
-mod Searching

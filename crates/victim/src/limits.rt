@@ -12,7 +12,7 @@ pub const WAYS: usize = 8;
 pub fn servable(party: usize, ways: usize) -> bool
     ensures { result ≡ serves party ways }
 {
-    party < PARTIES && 1 <= ways && ways <= WAYS
+    party < PARTIES && (1..=WAYS).contains(&ways)
 }
 
 // Whether a touch serves the way of the party.

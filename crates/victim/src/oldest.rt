@@ -33,11 +33,8 @@ impl Oldest {
         ensures value { result ≡ ways_of self.now party }
         ensures whole { MatchOption result (16 ≤ party) Whole }
     {
-        if party < PARTIES {
-            Some(self.orders[party].ways())
-        } else {
-            None
-        }
+        let order = self.orders.get(party)?;
+        Some(order.ways())
     }
 
     // The oldest of a party's first so many ways.

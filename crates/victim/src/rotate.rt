@@ -26,11 +26,7 @@ impl Rotate {
     pub fn pointer(&self, party: usize) -> Option<usize>
         ensures { result ≡ pointer_of self.now party }
     {
-        if party < PARTIES {
-            Some(self.pointers[party])
-        } else {
-            None
-        }
+        self.pointers.get(party).copied()
     }
 }
 

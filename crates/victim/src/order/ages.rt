@@ -35,12 +35,7 @@ impl Order {
     pub fn oldest_below(self, bound: usize) -> Option<usize>
         ensures { result ≡ oldest_below self.ways bound }
     {
-        for way in self.ways {
-            if way < bound {
-                return Some(way);
-            }
-        }
-        None
+        self.ways.iter().copied().find(|&way| way < bound)
     }
 }
 
@@ -48,10 +43,7 @@ impl Order {
 fn renew(ways: &mut [usize], way: usize)
     ensures { ways.new ≡ newest ways.old way }
 {
-    for at in 0..ways.len() {
-        if ways[at] == way {
-            ways[at..].rotate_left(1);
-            return;
-        }
+    if let Some(at) = ways.iter().position(|&other| other == way) {
+        ways[at..].rotate_left(1);
     }
 }

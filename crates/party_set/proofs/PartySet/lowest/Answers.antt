@@ -1,12 +1,11 @@
-use Rattle.std.proofs.Common.{sym, ◌∙◌, arith}
-use Rattle.party_set.proofs.Holders.{lowest_here, lowest_next, lowest_past}
+use Rattle.std.proofs.Common.{sym, ◌∙◌, refl, rules, tests}
+use Rattle.std.proofs.lemmas.Iterator.{YieldsList-from_range}
+use Rattle.std.proofs.lemmas.Iterator.Search.{find_from_yields_List}
+use Rattle.std.proofs.lemmas.Iterator.Adapters.{option_map_id}
+use Rattle.party_set.specs.Sets.{has, lowest_from}
+use Rattle.party_set.proofs.Searches.{first_find}
 use Rattle.party_set.proofs.PartySet.lowest.Goals as goal
 
-pub returns-then-has : goal.returns-then-has
-returns-then-has c = sym (lowest_here c.args.self c.loop-party.party (omega arith) (sym c.if-has.ensures)) ∙ c.loop-party.invariant
-
-pub loop-party-preserved : goal.loop-party-preserved
-loop-party-preserved c = sym (lowest_next c.args.self c.loop-party.party (omega arith) (sym c.if-has.ensures)) ∙ c.loop-party.invariant
-
 pub returns : goal.returns
-returns c = sym (lowest_past c.args.self c.loop-party.party (omega arith)) ∙ c.loop-party.invariant
+unfolding lowest_from
+returns c = sym (option_map_id _) ∙ find_from_yields_List (has c.args.self) _ _ c.find.result c.find.ensures.ran (YieldsList-from_range 0 16 16 (search rules) refl) (λ x b q k. search (rules, tests)) ∙ first_find (has c.args.self) 0 16
