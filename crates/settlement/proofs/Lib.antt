@@ -1,4 +1,3 @@
 mod Counting
 mod Filling
-pub mod Makes
 pub mod Sending

@@ -13,10 +13,8 @@ fn unsettled<V: Copy, P: Copy>(lines: &[Line<V, P>]) -> usize
     let mut count = 0;
     for line in lines {
         match line {
-            Line::Invalid => {}
-            Line::Shared { .. } => {}
-            Line::UpdateOnly { .. } => count += 1,
-            Line::Modified { .. } => count += 1,
+            Line::Invalid | Line::Shared { .. } => {}
+            Line::UpdateOnly { .. } | Line::Modified { .. } => count += 1,
         }
     }
     count
