@@ -1,5 +1,5 @@
 -- A refused call leaves the state as it was
-use Rattle.std.proofs.Common.{◌≡◌, ℕ, true, false, is_ok, Some, None, Ok, Err, Option, Result, sym, refl, ap, ◌∙◌}
+use Rattle.std.proofs.Common.{◌≡◌, ℕ, true, false, cond, is_ok, Some, None, Ok, Err, Option, Result, sym, refl, ap, ◌∙◌, arith}
 use Rattle.tables.specs.declared.line.Line.{Line}
 use Rattle.tables.specs.declared.request.Request.{Request}
 use Rattle.tables.specs.declared.register.Register.{Register}
@@ -18,10 +18,9 @@ use Rattle.answers.specs.declared.Advanced.{Advanced}
 use Rattle.answers.specs.declared.Advanced.TheVariants as advance
 use Rattle.settlement.specs.Answers.{settled}
 use Rattle.settlement.specs.declared.ticket.Unsettled.{Unsettled}
-use Rattle.settlement.proofs.Makes.{not_ok}
 
-no : {X : Type 0} → true ≡ false → X
-no e = not_ok e refl
+pub no : {X : Type 0} → true ≡ false → X
+no e = absurd (let z : ◌≡◌ {A = ℕ} 1 0 = ap (λ b. cond b 1 0) e in omega arith)
 
 module _ {V P R : Type 0} (k : Bench V P R) (s : State V P R) where
   abbrev Unmoved : State V P R × Answer V → Type 0

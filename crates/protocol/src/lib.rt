@@ -4,5 +4,6 @@
 
 mod calls;
 
+pub use bench::Bench;
 pub use calls::{advance, collect, post, relinquish, settle};
 pub use settlement::{Ticket, Unsettled, abandon, make};
