@@ -1,12 +1,9 @@
 -- One turn of the loop over the calls, and its end
-use Rattle.std.proofs.Common.{◌≡◌, ℕ, zero, suc, ◌+◌, ◌*◌, ◌<◌, ◌≤◌, true, List, [], ◌∷◌, ◌++◌, length, get_or, drop, sym, refl, ap, ◌∙◌, append_assoc, append-nil, add-one, arith, drop-cons}
-use Rattle.std.proofs.lemmas.Bool.{and_from, le-leb, eq-eqb}
-use Rattle.tables.specs.Legal.{fits}
+use Rattle.std.proofs.Common.{◌≡◌, ℕ, zero, suc, ◌+◌, ◌<◌, ◌≤◌, List, [], ◌∷◌, ◌++◌, length, get_or, drop, sym, refl, ap, ◌∙◌, append_assoc, append-nil, add-one, arith, drop-cons}
 use Rattle.model.specs.declared.call.Call.{Call}
 use Rattle.model.specs.declared.answer.Answer.{Answer}
 use Rattle.model.specs.Bench.{Bench, State}
 use Rattle.model.specs.Steps.{taken, events, final}
-use Rattle.model.proofs.Tabled.{Tabled}
 use Rattle.history.specs.Runs.{answers_of, together}
 
 next_call : {C : Type 0} (cs : List C) (i : ℕ) (x : C) → i < length cs → x ≡ get_or cs i x → drop i cs ≡ x ∷ drop (i + 1) cs
@@ -46,13 +43,3 @@ module _ {V P R : Type 0} (k : Bench V P R) where
   pub together_events : (s : State V P R) (cs : List (Call V P)) → together cs (answered s cs) ≡ events k s cs
   together_events s [] = refl
   together_events s (c ∷ cs) = ap (λ es. (c, (taken k s c).1) ∷ es) (together_events (taken k s c).0 cs)
-
-  -- the tables keep sizes within the limits
-  pub tabled_fits : (s : State V P R) → Tabled k s → fits k.ways s.lines s.directory s.registers ≡ true
-  tabled_fits s t =
-      let f = t.limits in
-      let some : 1 ≤ length s.registers = omega (arith, t.registers_length, f.parties_low) in
-      let few : length s.registers ≤ 16 = omega (arith, t.registers_length, f.parties_high) in
-      let filled : 1 ≤ length s.directory = omega (arith, t.directory_length, f.cells_low) in
-      let small : length s.directory ≤ 256 = omega (arith, t.directory_length, f.cells_high) in
-      and_from _ _ (and_from _ _ (and_from _ _ (and_from _ _ (and_from _ _ (and_from _ _ (le-leb _ _ some) (le-leb _ _ few)) (le-leb _ _ filled)) (le-leb _ _ small)) (le-leb _ _ f.ways_low)) (le-leb _ _ f.ways_high)) (eq-eqb _ _ (t.lines_length ∙ ap (λ x. x * k.ways) (sym t.registers_length)))
