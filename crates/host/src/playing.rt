@@ -1,90 +1,58 @@
 // Two small hosts: each makes a bench, has one request served on it, and gives its ticket up.
 ghost use Rattle.std.specs.Prelude.{◌≡◌, false, IfOk, OnOk};
 ghost use Rattle.tables.specs.Ledgers.{is_open};
-ghost use Rattle.model.specs.Bench.{bench, state};
 ghost use Rattle.model.specs.Steps.{final};
+ghost use Rattle.bench.specs.Lent.{SameLoans, seen, terms};
 ghost use Rattle.settlement.specs.Left.{owed};
 ghost use Rattle.host.specs.Servings.{served};
 
 use super::ending::{Ending, end};
 use memory::Home;
 use operation::Operation;
-use protocol::{abandon, advance, collect, make, post};
-use tables::{Entry, Ledger, Line, Refusal, Register, Request};
+use protocol::{Bench, abandon, advance, collect, make, post};
+use tables::{Refusal, Request};
 use victim::Victim;
 
 // Posts a request and advances its cell once. Whatever is refused, the bench goes on, and its end is still owed.
 fn serve<O: Operation, H: Home<O>, R: Victim>(
-    lines: &mut [Line<O::Value, O::Partial>],
-    directory: &mut [Entry],
-    registers: &mut [Register<O::Value, O::Partial>],
-    ledger: &mut Ledger,
-    rule: &mut R,
-    home: &mut H,
-    ways: usize,
+    bench: &mut Bench<'_, O, H, R>,
     party: usize,
     request: Request<O::Value, O::Partial>,
 )
-    ensures { state lines.new directory.new registers.new ledger.new rule.new (H.Home.meaning home.new) ≡ final (bench O.Operation.algebra R.Victim.rule ways (state lines.old directory.old registers.old ledger.old rule.old (H.Home.meaning home.old))) (state lines.old directory.old registers.old ledger.old rule.old (H.Home.meaning home.old)) (served party request) }
+    ensures state { seen H.Home.meaning bench.new ≡ final (terms O.Operation.algebra R.Victim.rule H.Home.meaning bench.old) (seen H.Home.meaning bench.old) (served party request) }
+    ensures lent { SameLoans bench.old bench.new }
 {
-    let _ = post::<O, H, R>(
-        lines, directory, registers, ledger, rule, home, ways, party, request,
-    );
-    let _ = advance::<O, H, R>(
-        lines,
-        directory,
-        registers,
-        ledger,
-        rule,
-        home,
-        ways,
-        request.cell(),
-    );
+    let _ = post(bench, party, request);
+    let _ = advance(bench, request.cell());
 }
 
 // Has one request served and collected, and settles.
 pub fn play_one<O: Operation, H: Home<O>, R: Victim>(
-    lines: &mut [Line<O::Value, O::Partial>],
-    directory: &mut [Entry],
-    registers: &mut [Register<O::Value, O::Partial>],
-    ledger: &mut Ledger,
-    rule: &mut R,
-    home: &mut H,
-    ways: usize,
+    bench: &mut Bench<'_, O, H, R>,
     party: usize,
     request: Request<O::Value, O::Partial>,
 ) -> Result<Ending, Refusal>
-    ensures { OnOk result (is_open ledger.new ≡ false) }
+    ensures closed { OnOk result (is_open bench.new.ledger.now ≡ false) }
+    ensures lent { SameLoans bench.old bench.new }
 {
-    let ticket = make::<O, H, R>(lines, directory, registers, ledger, rule, home, ways)?;
-    serve::<O, H, R>(
-        lines, directory, registers, ledger, rule, home, ways, party, request,
-    );
-    let _ = collect::<O, H, R>(lines, directory, registers, ledger, rule, home, ways, party);
-    Ok(end::<O, H, R>(
-        ticket, lines, directory, registers, ledger, rule, home, ways,
-    ))
+    let ticket = make(bench)?;
+    serve(bench, party, request);
+    let _ = collect(bench, party);
+    Ok(end(ticket, bench))
 }
 
 // Keeps its ticket in a slot while a request is served, and then abandons the bench, with the number of the lines
 // that are left with something to send home.
 pub fn play_slotted<O: Operation, H: Home<O>, R: Victim>(
-    lines: &mut [Line<O::Value, O::Partial>],
-    directory: &mut [Entry],
-    registers: &mut [Register<O::Value, O::Partial>],
-    ledger: &mut Ledger,
-    rule: &mut R,
-    home: &mut H,
-    ways: usize,
+    bench: &mut Bench<'_, O, H, R>,
     party: usize,
     request: Request<O::Value, O::Partial>,
 ) -> Result<usize, Refusal>
-    ensures { IfOk result (λ left. (left ≡ owed lines.new) × (is_open ledger.new ≡ false)) }
+    ensures left { IfOk result (λ left. (left ≡ owed bench.new.lines.now) × (is_open bench.new.ledger.now ≡ false)) }
+    ensures lent { SameLoans bench.old bench.new }
 {
-    let mut slot = Some(make::<O, H, R>(lines, directory, registers, ledger, rule, home, ways)?);
-    serve::<O, H, R>(
-        lines, directory, registers, ledger, rule, home, ways, party, request,
-    );
+    let mut slot = Some(make(bench)?);
+    serve(bench, party, request);
     let ticket = slot.take().unwrap();
-    Ok(abandon(ticket, lines, ledger))
+    Ok(abandon(ticket, bench))
 }
