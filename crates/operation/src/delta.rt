@@ -1,7 +1,7 @@
 // The partial of a total: a step up or down, a signed number of 32 bits.
 ghost use Rattle.std.specs.Prelude.{◌≡◌, ◌^◌, pos, neg_ℤ, ◌≤ℤ◌, ◌<ℤ◌};
 
-// In range for the same reason as `Count`.
+// In range for the same reason as `Count`, and made and read as it is.
 #[derive(Clone, Copy, PartialEq, Eq, Debug)]
 pub struct Delta {
     by: i32,

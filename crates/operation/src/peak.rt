@@ -4,6 +4,8 @@ ghost use Rattle.std.proofs.Common.{rules};
 
 use super::Operation;
 
+// `Flags` has other numbers, another join and another proof of each law: a type of its own for any such join, over a
+// trait for the join, would be longer than the two.
 #[derive(Drop)]
 pub struct Peak;
 
