@@ -1,2 +1,3 @@
 pub mod Scales
+pub mod Numbers
 pub mod Kinds

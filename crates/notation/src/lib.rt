@@ -5,8 +5,10 @@ mod kind;
 mod notation;
 mod number;
 mod shown;
+#[cfg(test)]
+mod tests;
 
 pub use kind::Kind;
 pub use notation::Notation;
-pub use number::{Misread, read_number};
+pub use number::{Misread, read, read_number};
 pub use shown::Shown;

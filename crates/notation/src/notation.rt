@@ -1,9 +1,9 @@
 // Operations whose values and partials can be written.
-ghost use Rattle.std.specs.Prelude.{◌≡◌, ℕ, ◌-◌, ◌^◌, List, IfOk, string_bytes, decimal, Result};
+ghost use Rattle.std.specs.Prelude.{◌≡◌, ℕ, ◌-◌, ◌^◌, List, decimal, Result};
 ghost use Rattle.notation.specs.declared.number.Misread.{Misread};
 ghost use Rattle.notation.specs.Scales.{natural, counts, deltas, Reads};
 
-use super::{Misread, Shown, read_number};
+use super::{Misread, Shown, read};
 use operation::{Count, Delta, Flags, Peak, Total};
 
 // An operation whose values and partials can be read from a field too.
@@ -34,11 +34,11 @@ impl Notation for Total {
     }
 
     fn read_value(field: &str) -> Result<Count, Misread> {
-        Ok(Count::new(u32::try_from(read_number(field)?)?))
+        Ok(Count::new(read(field)?))
     }
 
     fn read_partial(field: &str) -> Result<Delta, Misread> {
-        Ok(Delta::new(i32::try_from(read_number(field)?)?))
+        Ok(Delta::new(read(field)?))
     }
 }
 
@@ -52,11 +52,11 @@ impl Notation for Peak {
     }
 
     fn read_value(field: &str) -> Result<u64, Misread> {
-        Ok(u64::try_from(read_number(field)?)?)
+        read(field)
     }
 
     fn read_partial(field: &str) -> Result<u64, Misread> {
-        Ok(u64::try_from(read_number(field)?)?)
+        read(field)
     }
 }
 
@@ -70,10 +70,10 @@ impl Notation for Flags {
     }
 
     fn read_value(field: &str) -> Result<u16, Misread> {
-        Ok(u16::try_from(read_number(field)?)?)
+        read(field)
     }
 
     fn read_partial(field: &str) -> Result<u16, Misread> {
-        Ok(u16::try_from(read_number(field)?)?)
+        read(field)
     }
 }

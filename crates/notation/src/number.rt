@@ -1,11 +1,12 @@
 // Numbers as fields.
 ghost use Rattle.std.specs.Prelude.{◌≡◌};
 ghost use Rattle.std.specs.Int.{w128};
-ghost use Rattle.std.specs.Str.Parse.{ParsesSigned};
+ghost use Rattle.std.specs.Str.Parse.{ParsesSigned, error_kind};
 ghost use Rattle.notation.specs.declared.number.Misread.TheVariants.{Range};
+ghost use Rattle.notation.specs.Numbers.{misread_of, Converts};
 
 use std::fmt;
-use std::num::{IntErrorKind, TryFromIntError};
+use std::num::{IntErrorKind, ParseIntError, TryFromIntError};
 
 // Why a field is not read.
 #[derive(Clone, Copy, PartialEq, Eq, Debug)]
@@ -25,6 +26,18 @@ impl fmt::Display for Misread {
     }
 }
 
+// Text that is not read as a number of 128 bits.
+impl From<ParseIntError> for Misread {
+    ghost from_gives = { λ unread r. r ≡ misread_of (error_kind unread) };
+
+    fn from(unread: ParseIntError) -> Misread {
+        match unread.kind() {
+            IntErrorKind::PosOverflow | IntErrorKind::NegOverflow => Misread::Range,
+            _ => Misread::Number,
+        }
+    }
+}
+
 // A number that its type has no room for.
 impl From<TryFromIntError> for Misread {
     ghost from_gives = { λ _ r. r ≡ Range };
@@ -38,11 +51,12 @@ impl From<TryFromIntError> for Misread {
 pub fn read_number(field: &str) -> Result<i128, Misread>
     ensures { ParsesSigned w128 10 field.now result }
 {
-    match field.parse::<i128>() {
-        Ok(number) => Ok(number),
-        Err(e) => match e.kind() {
-            IntErrorKind::PosOverflow | IntErrorKind::NegOverflow => Err(Misread::Range),
-            _ => Err(Misread::Number),
-        },
-    }
+    Ok(field.parse::<i128>()?)
+}
+
+// The value of a narrower type that is the number that a field writes.
+pub fn read<T: TryFrom<i128, Error = TryFromIntError>>(field: &str) -> Result<T, Misread>
+    ensures { Converts T.try_from_gives field.now result }
+{
+    Ok(T::try_from(read_number(field)?)?)
 }
