@@ -5,25 +5,16 @@ ghost use Rattle.std.specs.Str.Parse.{ParsesSigned, error_kind};
 ghost use Rattle.notation.specs.declared.number.Misread.TheVariants.{Range};
 ghost use Rattle.notation.specs.Numbers.{misread_of, Converts};
 
-use std::fmt;
 use std::num::{IntErrorKind, ParseIntError, TryFromIntError};
+use thiserror::Error;
 
 // Why a field is not read.
-#[derive(Clone, Copy, PartialEq, Eq, Debug)]
+#[derive(Clone, Copy, PartialEq, Eq, Debug, Error)]
 pub enum Misread {
-    // It is no decimal number.
+    #[error("a field is not a decimal number")]
     Number,
-    // Its number lies outside the range.
+    #[error("a number is out of range")]
     Range,
-}
-
-impl fmt::Display for Misread {
-    fn fmt<W: fmt::Write>(&self, f: &mut fmt::Formatter<W>) -> fmt::Result {
-        f.write_str(match self {
-            Misread::Number => "a field is not a decimal number",
-            Misread::Range => "a number is out of range",
-        })
-    }
 }
 
 // Text that is not read as a number of 128 bits.
