@@ -12,12 +12,12 @@
 use Rattle.std.specs.Prelude.{◌≡◌, ℕ, ◌-◌, ◌^◌, List, [], ◌∷◌, length, drop, pos, Ok, codes, Result}
 use Rattle.layering.specs.declared.Call.{Call}
 use Rattle.layering.specs.declared.Call.TheVariants as call
+use Rattle.notation.specs.declared.Kind.{Kind}
+use Rattle.notation.specs.declared.Kind.TheVariants as kind
 use Rattle.notation.specs.declared.Misread.{Misread}
 use Rattle.notation.specs.Scales.{natural, Reads}
 use Rattle.call_list.specs.declared.faults.Stop.{Stop}
 use Rattle.call_list.specs.declared.faults.Stop.TheVariants.{Input, Memory}
-use Rattle.call_list.specs.declared.script.Kind.{Kind}
-use Rattle.call_list.specs.declared.script.Kind.TheVariants as kind
 use Rattle.call_list.specs.declared.script.Verb.{Verb}
 use Rattle.call_list.specs.declared.script.Verb.TheVariants as verb
 use Rattle.call_list.specs.Fields.{Words, Begins}

@@ -6,4 +6,4 @@ mod fields;
 mod script;
 
 pub use faults::{Fault, Reason, Stop};
-pub use script::{Kind, read_call, read_calls, read_head};
+pub use script::{read_call, read_calls, read_head};

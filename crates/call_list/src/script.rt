@@ -2,23 +2,15 @@
 ghost use Rattle.std.specs.Prelude.{◌≡◌, ℕ, ◌-◌, ◌^◌, List, IfOk, MatchResult, ◌≢◌};
 ghost use Rattle.notation.specs.Scales.{natural, Reads};
 ghost use Rattle.call_list.specs.declared.faults.Reason.TheVariants.{Word, Operation as NoOperation};
-ghost use Rattle.call_list.specs.declared.script.Kind.{Kind};
+ghost use Rattle.notation.specs.declared.Kind.{Kind};
 ghost use Rattle.call_list.specs.declared.script.Verb.{Verb};
 ghost use Rattle.call_list.specs.Script.{verb_word, kind_word, Cells, HeadLine, CallLine, Calls, Blamed};
 
 use super::faults::{Fault, Reason, Stop};
 use super::fields::{end_of_fields, next_field};
 use layering::Call;
-use notation::{Misread, Notation, read_number};
+use notation::{Kind, Misread, Notation, read, read_number};
 use std::alloc::Global;
-
-// An operation, by its word.
-#[derive(Clone, Copy)]
-pub enum Kind {
-    Total,
-    Peak,
-    Flags,
-}
 
 // A call, by its word.
 #[derive(Clone, Copy)]
@@ -81,24 +73,16 @@ pub fn read_calls<O: Notation>(
 fn numbered<O: Notation>(number: usize, line: &str) -> Result<Call<O::Value, O::Partial>, Fault>
     ensures { MatchResult result (CallLine O.Notation.valued O.Notation.partialed line.now) (λ f. f.line ≡ number) }
 {
-    match read_call::<O>(line) {
-        Ok(call) => Ok(call),
-        Err(reason) => Err(Fault {
-            line: number,
-            reason,
-        }),
-    }
+    read_call::<O>(line).map_err(|reason| Fault {
+        line: number,
+        reason,
+    })
 }
 
 fn read_kind(word: &str) -> Result<Kind, Reason>
     ensures { MatchResult result (λ k. word.now ≡ kind_word k) (λ e. (e ≡ NoOperation) × ((k : Kind) → word.now ≢ kind_word k)) }
 {
-    match word {
-        "total" => Ok(Kind::Total),
-        "peak" => Ok(Kind::Peak),
-        "flags" => Ok(Kind::Flags),
-        _ => Err(Reason::Operation),
-    }
+    Kind::named(word.as_bytes()).ok_or(Reason::Operation)
 }
 
 fn read_verb(word: &str) -> Result<Verb, Reason>
@@ -116,13 +100,14 @@ fn read_verb(word: &str) -> Result<Verb, Reason>
 fn read_place(field: &str) -> Result<usize, Misread>
     ensures { Reads (natural (2 ^ 64 - 1)) field.now result }
 {
-    Ok(usize::try_from(read_number(field)?)?)
+    read(field)
 }
 
 fn read_cells(field: &str) -> Result<usize, Reason>
     ensures { IfOk result (Cells field.now) }
 {
     match read_number(field)? {
+        // Proved to fit: `try_from` would add an error that never comes.
         cells @ 1..=65536 => Ok(cells as usize),
         _ => Err(Reason::Cells),
     }

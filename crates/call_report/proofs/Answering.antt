@@ -1,6 +1,6 @@
 -- From the report on a text to the answer to an input
 use Rattle.std.proofs.Common.{◌≡◌, ℕ, List, IfOk, Ok, Err, Result, sym, subst, MatchResult}
-use Rattle.call_list.specs.declared.Kind.{Kind}
+use Rattle.notation.specs.declared.Kind.{Kind}
 use Rattle.call_report.specs.Inputs.{Headed, ReportOf, Answers}
 
 pub answers : {X E : Type 0} (bytes : X → List ℕ) (input text : List ℕ) (k kind : Kind) (n : ℕ) (Q : E → Type 0) (r : Result X E) → text ≡ input → Headed text k n → k ≡ kind → MatchResult r (λ s. ReportOf kind text n (bytes s)) Q → IfOk r (λ s. Answers input (bytes s))

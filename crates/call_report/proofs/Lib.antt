@@ -1,2 +1,3 @@
 mod Answering
+mod Heads
 mod Written

@@ -8,10 +8,10 @@ use Rattle.std.specs.Prelude.{◌≡◌, ℕ, ◌-◌, ◌^◌, max, Bool, List,
 use Rattle.operation.specs.Algebra.{Algebra}
 use Rattle.operation.specs.Total.{totals}
 use Rattle.layering.specs.declared.Call.{Call}
+use Rattle.notation.specs.declared.Kind.{Kind}
+use Rattle.notation.specs.declared.Kind.TheVariants.{Total, Peak, Flags}
 use Rattle.notation.specs.declared.Misread.{Misread}
 use Rattle.notation.specs.Scales.{natural, counts, deltas, Reads}
-use Rattle.call_list.specs.declared.Kind.{Kind}
-use Rattle.call_list.specs.declared.Kind.TheVariants.{Total, Peak, Flags}
 use Rattle.call_list.specs.Fields.{Begins}
 use Rattle.call_list.specs.Script.{HeadLine, Calls}
 use Rattle.call_report.specs.declared.comparison.Comparison.{Comparison}

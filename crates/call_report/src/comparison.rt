@@ -1,20 +1,22 @@
 // The same calls on three piles, compared.
-ghost use Rattle.std.specs.Prelude.{◌≡◌, replicate, IfOk, string_bytes, Decides};
+ghost use Rattle.std.specs.Prelude.{◌≡◌, replicate, IfOk, string_bytes};
+ghost use Rattle.memory.specs.Row.{counted};
+ghost use Rattle.layering.specs.Plays.{answered, finally};
 ghost use Rattle.call_report.specs.Reports.{Compared};
 ghost use Rattle.call_report.specs.Texts.{answer_lines, cell_lines};
 
 use super::texts::{answer_lines, cell_lines};
 use layering::{Call, Counts};
+use memory::Combining;
 use notation::Notation;
-use piles::{Outcome, on_cells, on_one_register, on_two_registers};
+use piles::{Bare, Pile, play_on};
 use std::alloc::{AllocError, Global};
 
-// A play as it is printed, and what reached the cells.
-#[derive(Drop)]
+// A play as it is printed.
+#[derive(PartialEq, Eq, Drop)]
 struct Sheet {
     answers: String,
     cells: String,
-    reached: Counts,
 }
 
 // The answers and the cells in the end, what reached the cells under each pile, and whether all piles gave the same.
@@ -34,52 +36,39 @@ pub fn compare<O: Notation>(
     calls: &[Call<O::Value, O::Partial>],
     heap: Global,
 ) -> Result<Comparison, AllocError>
-    ensures { IfOk result (Compared O.Operation.algebra O.Notation.shown cells calls.now) }
+    ensures { IfOk result (Compared O.Operation.algebra O.Shown.shown cells calls.now) }
 {
     let zero = O::zero();
-    let plain = printed::<O>(on_cells::<O>(row(cells, zero, heap)?, calls, heap)?, heap)?;
-    let one = printed::<O>(
-        on_one_register::<O>(row(cells, zero, heap)?, calls, heap)?,
-        heap,
-    )?;
-    let two = printed::<O>(
-        on_two_registers::<O>(row(cells, zero, heap)?, calls, heap)?,
-        heap,
-    )?;
-    let agree = alike(&plain, &one) && alike(&plain, &two);
+    let (sheet, plain) = played::<O, Bare<O>>(zero, cells, calls, heap)?;
+    let (first, one) = played::<O, Combining<O, Bare<O>>>(zero, cells, calls, heap)?;
+    let (second, two) = played::<O, Combining<O, Combining<O, Bare<O>>>>(zero, cells, calls, heap)?;
+    let agree = sheet == first && sheet == second;
     Ok(Comparison {
-        answers: plain.answers,
-        cells: plain.cells,
-        plain: plain.reached,
-        one: one.reached,
-        two: two.reached,
+        answers: sheet.answers,
+        cells: sheet.cells,
+        plain,
+        one,
+        two,
         agree,
     })
 }
 
-fn printed<O: Notation>(outcome: Outcome<O::Value>, heap: Global) -> Result<Sheet, AllocError>
-    ensures { IfOk result (λ s. (string_bytes s.answers ≡ answer_lines O.Notation.shown outcome.answers.items) × (string_bytes s.cells ≡ cell_lines O.Notation.shown outcome.values.items) × (s.reached ≡ outcome.reached)) }
+// The calls, played on a pile of cells that hold one value: as it is printed, and what reached the cells.
+fn played<O: Notation, P: Pile<O>>(
+    value: O::Value,
+    cells: usize,
+    calls: &[Call<O::Value, O::Partial>],
+    heap: Global,
+) -> Result<(Sheet, Counts), AllocError>
+    ensures answers { IfOk result (λ p. string_bytes p.0.answers ≡ answer_lines O.Shown.shown (answered O.Operation.algebra calls.now (counted (replicate cells value)))) }
+    ensures cells { IfOk result (λ p. string_bytes p.0.cells ≡ cell_lines O.Shown.shown (finally O.Operation.algebra calls.now (counted (replicate cells value)))) }
 {
-    Ok(Sheet {
+    let mut row = Vec::new(heap);
+    row.resize(cells, value)?;
+    let outcome = play_on::<O, P>(row, calls, heap)?;
+    let sheet = Sheet {
         answers: answer_lines::<O>(outcome.answers.as_slice(), heap)?,
         cells: cell_lines::<O>(outcome.values.as_slice(), heap)?,
-        reached: outcome.reached,
-    })
-}
-
-fn alike(p: &Sheet, q: &Sheet) -> bool
-    ensures { Decides result ((string_bytes p.now.answers ≡ string_bytes q.now.answers) × (string_bytes p.now.cells ≡ string_bytes q.now.cells)) }
-{
-    p.answers.as_str() == q.answers.as_str() && p.cells.as_str() == q.cells.as_str()
-}
-
-// A row of cells that hold one value.
-fn row<V: Copy>(cells: usize, value: V, heap: Global) -> Result<Vec<V>, AllocError>
-    ensures { IfOk result (λ v. v.items ≡ replicate cells value) }
-{
-    let mut row = Vec::with_capacity(heap, cells)?;
-    for _place in 0..cells {
-        row.push_reserved(value);
-    }
-    Ok(row)
+    };
+    Ok((sheet, outcome.reached))
 }

@@ -6,9 +6,9 @@ ghost use Rattle.call_report.specs.Reports.{counts_line, reached_lines, verdict_
 
 use super::comparison::{Comparison, compare};
 use super::input::{head_of, text_of};
-use call_list::{Kind, Stop, read_calls};
+use call_list::{Stop, read_calls};
 use layering::Counts;
-use notation::Notation;
+use notation::{Kind, Notation};
 use operation::{Flags, Peak, Total};
 use std::alloc::{AllocError, Global};
 
@@ -27,25 +27,22 @@ pub fn report(input: &[u8], heap: Global) -> Result<String, Stop>
 
 // The report on the calls of a text, whose first line says so many cells of this operation.
 fn report_on<O: Notation>(text: &str, cells: usize, heap: Global) -> Result<String, Stop>
-    ensures { MatchResult result (λ s. Reported O.Operation.algebra O.Notation.valued O.Notation.partialed O.Notation.shown text.now cells (string_bytes s)) (Blamed text.now) }
+    ensures { MatchResult result (λ s. Reported O.Operation.algebra O.Notation.valued O.Notation.partialed O.Shown.shown text.now cells (string_bytes s)) (Blamed text.now) }
 {
     let calls = read_calls::<O>(text, heap)?;
     let comparison = compare::<O>(cells, calls.as_slice(), heap)?;
     Ok(report_text(cells, &comparison, heap)?)
 }
 
-fn report_text(cells: usize, comparison: &Comparison, heap: Global) -> Result<String, AllocError>
-    ensures { IfOk result (λ s. string_bytes s ≡ report_text cells comparison.now) }
+fn report_text(size: usize, comparison: &Comparison, heap: Global) -> Result<String, AllocError>
+    ensures { IfOk result (λ s. string_bytes s ≡ report_text size comparison.now) }
 {
+    let answers = &comparison.answers;
     let reached = reached_lines(comparison, heap)?;
+    let cells = &comparison.cells;
     let verdict = verdict_line(comparison.agree);
-    laid_out(
-        comparison.answers.as_str(),
-        reached.as_str(),
-        cells,
-        comparison.cells.as_str(),
-        verdict,
-        heap,
+    format!(in heap;
+        "{answers}reached the cells, with what the registers sent down in the end:\n{reached}cells in the end that are not 0, of {size}:\n{cells}{verdict}"
     )
 }
 
@@ -55,28 +52,7 @@ fn reached_lines(comparison: &Comparison, heap: Global) -> Result<String, AllocE
     let plain = counts_line("plain cells", comparison.plain, heap)?;
     let one = counts_line("one register", comparison.one, heap)?;
     let two = counts_line("two registers", comparison.two, heap)?;
-    joined(plain.as_str(), one.as_str(), two.as_str(), heap)
-}
-
-fn laid_out(
-    answers: &str,
-    reached: &str,
-    size: usize,
-    cells: &str,
-    verdict: &str,
-    heap: Global,
-) -> Result<String, AllocError>
-    ensures { IfOk result (λ s. string_bytes s ≡ layout answers.now reached.now size cells.now verdict.now) }
-{
-    format!(in heap;
-        "{answers}reached the cells, with what the registers sent down in the end:\n{reached}cells in the end that are not 0, of {size}:\n{cells}{verdict}"
-    )
-}
-
-fn joined(first: &str, second: &str, third: &str, heap: Global) -> Result<String, AllocError>
-    ensures { IfOk result (λ s. string_bytes s ≡ first.now ++ (second.now ++ third.now)) }
-{
-    format!(in heap; "{first}{second}{third}")
+    format!(in heap; "{plain}{one}{two}")
 }
 
 fn counts_line(pile: &str, counts: Counts, heap: Global) -> Result<String, AllocError>

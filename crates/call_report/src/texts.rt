@@ -3,15 +3,15 @@ ghost use Rattle.std.specs.Prelude.{◌≡◌, IfOk, string_bytes};
 ghost use Rattle.call_report.specs.Texts.{numbered, said, answer_line, answer_lines, cell_line, cell_lines};
 
 use layering::Answer;
-use notation::Notation;
+use notation::Shown;
 use std::alloc::{AllocError, Global};
 
 // The answers, a line for each, with the number of the line of its call.
-pub fn answer_lines<O: Notation>(
+pub fn answer_lines<O: Shown>(
     answers: &[Answer<O::Value>],
     heap: Global,
 ) -> Result<String, AllocError>
-    ensures { IfOk result (λ s. string_bytes s ≡ answer_lines O.Notation.shown answers.now) }
+    ensures { IfOk result (λ s. string_bytes s ≡ answer_lines O.Shown.shown answers.now) }
 {
     let mut lines = String::new(heap);
     for (before, answer) in answers.iter().enumerate() {
@@ -21,12 +21,12 @@ pub fn answer_lines<O: Notation>(
 }
 
 // The first call stands on line 2.
-fn answer_line<O: Notation>(
+fn answer_line<O: Shown>(
     before: usize,
     answer: Answer<O::Value>,
     heap: Global,
 ) -> Result<String, AllocError>
-    ensures { IfOk result (λ s. string_bytes s ≡ answer_line O.Notation.shown before answer) }
+    ensures { IfOk result (λ s. string_bytes s ≡ answer_line O.Shown.shown before answer) }
 {
     numbered_line(
         before.saturating_add(2),
@@ -35,13 +35,13 @@ fn answer_line<O: Notation>(
     )
 }
 
-fn answer_text<O: Notation>(answer: Answer<O::Value>, heap: Global) -> Result<String, AllocError>
-    ensures { IfOk result (λ s. string_bytes s ≡ said O.Notation.shown answer) }
+fn answer_text<O: Shown>(answer: Answer<O::Value>, heap: Global) -> Result<String, AllocError>
+    ensures { IfOk result (λ s. string_bytes s ≡ said O.Shown.shown answer) }
 {
     match answer {
-        Answer::Value(value) => O::show(value, heap),
-        Answer::Done => String::from_str(heap, "done"),
-        Answer::Refused(refusal) => {
+        Ok(Some(value)) => O::show(value, heap),
+        Ok(None) => String::from_str(heap, "done"),
+        Err(refusal) => {
             let number = refusal.number();
             format!(in heap; "refused {number}")
         }
@@ -49,8 +49,8 @@ fn answer_text<O: Notation>(answer: Answer<O::Value>, heap: Global) -> Result<St
 }
 
 // The cells that are not 0, a line for each.
-pub fn cell_lines<O: Notation>(values: &[O::Value], heap: Global) -> Result<String, AllocError>
-    ensures { IfOk result (λ s. string_bytes s ≡ cell_lines O.Notation.shown values.now) }
+pub fn cell_lines<O: Shown>(values: &[O::Value], heap: Global) -> Result<String, AllocError>
+    ensures { IfOk result (λ s. string_bytes s ≡ cell_lines O.Shown.shown values.now) }
 {
     let mut lines = String::new(heap);
     for (place, value) in values.iter().enumerate() {
@@ -59,8 +59,8 @@ pub fn cell_lines<O: Notation>(values: &[O::Value], heap: Global) -> Result<Stri
     Ok(lines)
 }
 
-fn cell_line<O: Notation>(place: usize, value: O::Value, heap: Global) -> Result<String, AllocError>
-    ensures { IfOk result (λ s. string_bytes s ≡ cell_line O.Notation.shown place value) }
+fn cell_line<O: Shown>(place: usize, value: O::Value, heap: Global) -> Result<String, AllocError>
+    ensures { IfOk result (λ s. string_bytes s ≡ cell_line O.Shown.shown place value) }
 {
     let shown = O::show(value, heap)?;
     if shown.as_str() == "0" {

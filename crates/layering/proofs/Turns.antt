@@ -3,8 +3,7 @@ use Rattle.std.proofs.Common.{◌≡◌, ℕ, ◌+◌, ◌<◌, ◌≤◌, List,
 use Rattle.std.proofs.lemmas.List.{drop_more, at_drop_all}
 use Rattle.operation.specs.Algebra.{Algebra}
 use Rattle.layering.specs.declared.calls.Call.{Call}
-use Rattle.layering.specs.declared.calls.Answer.{Answer}
-use Rattle.layering.specs.Plays.{answer, after, answered, finally}
+use Rattle.layering.specs.Plays.{Answer, answer, after, answered, finally}
 
 module _ {V P : Type 0} (o : Algebra V P) (calls : List (Call V P)) (i : ℕ) (vs : List V) where
   -- the call at i is x, and its play leaves next

@@ -9,7 +9,7 @@ use memory::{Home, Refusal};
 use operation::Operation;
 
 // How many calls of each kind were accepted. A count that is full stays so.
-#[derive(Clone, Copy)]
+#[derive(Clone, Copy, PartialEq, Eq, Debug, Default)]
 pub struct Counts {
     pub loads: u64,
     pub stores: u64,
@@ -29,12 +29,10 @@ impl<H> Counting<H> {
         ensures below { result.below ≡ below }
         ensures counts { result.counts ≡ none }
     {
-        let counts = Counts {
-            loads: 0,
-            stores: 0,
-            applies: 0,
-        };
-        Counting { below, counts }
+        Counting {
+            below,
+            counts: Counts::default(),
+        }
     }
 
     // What was counted so far.
@@ -46,7 +44,7 @@ impl<H> Counting<H> {
 
     // The home again, and what was counted.
     pub fn into_parts(self) -> (H, Counts)
-        ensures { (result.0 ≡ self.below) × (result.1 ≡ self.counts) }
+        ensures { result ≡ (self.below, self.counts) }
     {
         let Counting { below, counts } = self;
         (below, counts)

@@ -12,7 +12,7 @@ use std::process::ExitCode;
 use std::{env, io};
 
 // Reads one byte more than is taken, so that a longer input shows.
-fn read_some<R: Read + Drop>(from: R, heap: Global) -> io::Result<Vec<u8>> {
+fn read_some(from: impl Read + Drop, heap: Global) -> io::Result<Vec<u8>> {
     let mut bytes = Vec::new(heap);
     let mut part = from.take(MOST as u64 + 1);
     part.read_to_end(&mut bytes)?;
@@ -21,9 +21,7 @@ fn read_some<R: Read + Drop>(from: R, heap: Global) -> io::Result<Vec<u8>> {
 
 // The file that the first argument names, or else standard input.
 fn read_input(rt: &HostRuntime) -> io::Result<Vec<u8>> {
-    let mut words = env::args(rt)?;
-    let _program = words.next();
-    match words.next() {
+    match env::args(rt)?.nth(1) {
         Some(path) => read_some(File::open(rt, path.as_str())?, rt.alloc()),
         None => read_some(rt.stdin(), rt.alloc()),
     }

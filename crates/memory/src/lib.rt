@@ -10,7 +10,7 @@ use operation::Operation;
 mod combining;
 mod plain;
 
-pub use combining::{Combining, Held};
+pub use combining::{Combining, Pending};
 pub use plain::PlainCells;
 
 // Why a home refuses.
@@ -70,7 +70,7 @@ mod tests {
     #[test]
     fn a_store_forgets_what_is_held(rt: HostRuntime) -> Result<(), Fail> {
         let cells = PlainCells::<Peak>::new(vec![in rt.alloc(); 10]?);
-        let mut home = Combining::<Peak, PlainCells<Peak>>::over(cells);
+        let mut home = Combining::<Peak, _>::over(cells);
         home.apply(0, 12)?;
         home.store(0, 9)?;
         assert_eq!(rt; home.load(0)?, 9);
@@ -88,8 +88,8 @@ mod tests {
     fn two_registers_agree_with_plain_cells(rt: HostRuntime) -> Result<(), Fail> {
         let mut plain = PlainCells::<Peak>::new(vec![in rt.alloc(); 10, 20]?);
         let below = PlainCells::<Peak>::new(vec![in rt.alloc(); 10, 20]?);
-        let lower = Combining::<Peak, PlainCells<Peak>>::over(below);
-        let mut upper = Combining::<Peak, Combining<Peak, PlainCells<Peak>>>::over(lower);
+        let lower = Combining::<Peak, _>::over(below);
+        let mut upper = Combining::<Peak, _>::over(lower);
         assert_eq!(rt; played(&mut plain)?, (12, 30));
         assert_eq!(rt; played(&mut upper)?, (12, 30));
         Ok(())

@@ -31,28 +31,33 @@ impl<O: Operation> PlainCells<O> {
         let PlainCells { row } = self;
         row
     }
+
+    // The values that count.
+    #[tactic(auto, using(crate::proofs::Rows::cells))]
+    fn counted(&self) -> &[O::Value]
+        ensures { result.now ≡ counted self.now.row.items }
+    {
+        &self.row[..self.cells()]
+    }
 }
 
+// A method with a clause of its own repeats those of the trait that do not follow from it.
 impl<O: Operation> Home<O> for PlainCells<O> {
     ghost meaning = { λ s. counted s.row.items };
 
+    #[tactic(auto, using(crate::proofs::Rows::cells))]
     fn cells(&self) -> usize {
         self.row.len().min(LIMIT)
     }
 
     fn load(&mut self, place: usize) -> Result<O::Value, Refusal>
         ensures value { result ≡ loaded (counted self.old.row.items) place }
-        ensures after { counted self.new.row.items ≡ counted self.old.row.items }
-        ensures unmoved { is_ok result ≡ false → self.new ≡ self.old }
         ensures same { self.new ≡ self.old }
     {
-        if place < self.cells() {
-            Ok(self.row[place])
-        } else {
-            Err(Refusal::Place)
-        }
+        self.counted().get(place).copied().ok_or(Refusal::Place)
     }
 
+    #[tactic(auto, using(crate::proofs::Rows::cells))]
     fn store(&mut self, place: usize, value: O::Value) -> Result<(), Refusal>
         ensures value { result ≡ placed (counted self.old.row.items) place }
         ensures after { counted self.new.row.items ≡ slice_set (counted self.old.row.items) place value }
@@ -67,6 +72,7 @@ impl<O: Operation> Home<O> for PlainCells<O> {
         }
     }
 
+    #[tactic(auto, using(crate::proofs::Rows::cells))]
     fn apply(&mut self, place: usize, partial: O::Partial) -> Result<(), Refusal>
         ensures value { result ≡ placed (counted self.old.row.items) place }
         ensures after { counted self.new.row.items ≡ applied O.Operation.algebra (counted self.old.row.items) place partial }
@@ -74,7 +80,6 @@ impl<O: Operation> Home<O> for PlainCells<O> {
         ensures untouched { beyond self.new.row.items ≡ beyond self.old.row.items }
     {
         let value = self.load(place)?;
-        let acted = O::act(value, partial);
-        self.store(place, acted)
+        self.store(place, O::act(value, partial))
     }
 }

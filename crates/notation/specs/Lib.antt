@@ -1,1 +1,3 @@
 pub mod Scales
+pub mod Numbers
+pub mod Kinds

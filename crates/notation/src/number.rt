@@ -1,27 +1,31 @@
 // Numbers as fields.
 ghost use Rattle.std.specs.Prelude.{◌≡◌};
 ghost use Rattle.std.specs.Int.{w128};
-ghost use Rattle.std.specs.Str.Parse.{ParsesSigned};
+ghost use Rattle.std.specs.Str.Parse.{ParsesSigned, error_kind};
 ghost use Rattle.notation.specs.declared.number.Misread.TheVariants.{Range};
+ghost use Rattle.notation.specs.Numbers.{misread_of, Converts};
 
-use std::fmt;
-use std::num::{IntErrorKind, TryFromIntError};
+use std::num::{IntErrorKind, ParseIntError, TryFromIntError};
+use thiserror::Error;
 
 // Why a field is not read.
-#[derive(Clone, Copy, PartialEq, Eq, Debug)]
+#[derive(Clone, Copy, PartialEq, Eq, Debug, Error)]
 pub enum Misread {
-    // It is no decimal number.
+    #[error("a field is not a decimal number")]
     Number,
-    // Its number lies outside the range.
+    #[error("a number is out of range")]
     Range,
 }
 
-impl fmt::Display for Misread {
-    fn fmt<W: fmt::Write>(&self, f: &mut fmt::Formatter<W>) -> fmt::Result {
-        f.write_str(match self {
-            Misread::Number => "a field is not a decimal number",
-            Misread::Range => "a number is out of range",
-        })
+// Text that is not read as a number of 128 bits.
+impl From<ParseIntError> for Misread {
+    ghost from_gives = { λ unread r. r ≡ misread_of (error_kind unread) };
+
+    fn from(unread: ParseIntError) -> Misread {
+        match unread.kind() {
+            IntErrorKind::PosOverflow | IntErrorKind::NegOverflow => Misread::Range,
+            _ => Misread::Number,
+        }
     }
 }
 
@@ -38,11 +42,12 @@ impl From<TryFromIntError> for Misread {
 pub fn read_number(field: &str) -> Result<i128, Misread>
     ensures { ParsesSigned w128 10 field.now result }
 {
-    match field.parse::<i128>() {
-        Ok(number) => Ok(number),
-        Err(e) => match e.kind() {
-            IntErrorKind::PosOverflow | IntErrorKind::NegOverflow => Err(Misread::Range),
-            _ => Err(Misread::Number),
-        },
-    }
+    Ok(field.parse::<i128>()?)
+}
+
+// The value of a narrower type that is the number that a field writes.
+pub fn read<T: TryFrom<i128, Error = TryFromIntError>>(field: &str) -> Result<T, Misread>
+    ensures { Converts T.try_from_gives field.now result }
+{
+    Ok(T::try_from(read_number(field)?)?)
 }

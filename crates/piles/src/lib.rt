@@ -1,14 +1,18 @@
-// Piles of layers over plain cells, each with a count of what reaches the cells.
+// Piles of layers over plain cells, each with a count of what reaches the cells, and the play of calls on any of them.
 #![tactic(auto)]
 
 ghost use Rattle.std.specs.Prelude.{◌≡◌, IfOk};
-ghost use Rattle.memory.specs.Register.{acting};
 ghost use Rattle.memory.specs.Row.{counted};
 ghost use Rattle.layering.specs.Plays.{Played};
 
-use layering::{Answer, Call, Counting, Counts, play};
-use memory::{Combining, Held, Home, PlainCells};
+mod pile;
+#[cfg(test)]
+mod tests;
+
+use layering::{Answer, Call, Counts, play};
+use memory::Home;
 use operation::Operation;
+pub use pile::{Bare, Pile, drained};
 use std::alloc::{AllocError, Global};
 
 // What a play on a pile gave: the answers, what reached the cells, and the values in the end.
@@ -19,57 +23,24 @@ pub struct Outcome<V> {
     pub values: Vec<V>,
 }
 
-// The calls, played on a row of plain cells.
-pub fn on_cells<O: Operation>(
+// The calls, played on a pile over a row; what the pile holds in the end is sent down.
+pub fn play_on<O: Operation, P: Pile<O>>(
     row: Vec<O::Value>,
     calls: &[Call<O::Value, O::Partial>],
     heap: Global,
 ) -> Result<Outcome<O::Value>, AllocError>
     ensures { IfOk result (λ p. Played O.Operation.algebra calls.now (counted row.items) p.answers.items p.values.items) }
 {
-    let mut pile = Counting::over(PlainCells::<O>::new(row));
+    let mut pile = P::on_row(row);
     let answers = play(&mut pile, calls, heap)?;
-    settled(answers, pile, heap)
-}
-
-// The same with a register over the cells; what it holds in the end is sent down.
-pub fn on_one_register<O: Operation>(
-    row: Vec<O::Value>,
-    calls: &[Call<O::Value, O::Partial>],
-    heap: Global,
-) -> Result<Outcome<O::Value>, AllocError>
-    ensures { IfOk result (λ p. Played O.Operation.algebra calls.now (counted row.items) p.answers.items p.values.items) }
-{
-    let mut pile = Combining::<O, _>::over(Counting::over(PlainCells::<O>::new(row)));
-    let answers = play(&mut pile, calls, heap)?;
-    settled(answers, drained(pile), heap)
-}
-
-// The same with a register over a register over the cells.
-pub fn on_two_registers<O: Operation>(
-    row: Vec<O::Value>,
-    calls: &[Call<O::Value, O::Partial>],
-    heap: Global,
-) -> Result<Outcome<O::Value>, AllocError>
-    ensures { IfOk result (λ p. Played O.Operation.algebra calls.now (counted row.items) p.answers.items p.values.items) }
-{
-    let mut pile = Combining::<O, _>::over(Combining::<O, _>::over(Counting::over(PlainCells::<
-        O,
-    >::new(row))));
-    let answers = play(&mut pile, calls, heap)?;
-    settled(answers, drained(drained(pile)), heap)
-}
-
-// The home below a register, once it has what the register held.
-pub fn drained<O: Operation, H: Home<O>>(register: Combining<O, H>) -> H
-    ensures { H.Home.meaning result ≡ acting O.Operation.algebra (H.Home.meaning register.below) register.held }
-{
-    let (mut below, held) = register.into_parts();
-    if let Held::At(place, partial) = held {
-        // Refused, it would have acted on no cell.
-        let _ = below.apply(place, partial);
-    }
-    below
+    // The cells are read once nothing counts any more.
+    let (mut cells, reached) = pile.drained().into_parts();
+    let values = values(&mut cells, heap)?;
+    Ok(Outcome {
+        answers,
+        reached,
+        values,
+    })
 }
 
 // The values of a home, place by place.
@@ -89,21 +60,4 @@ pub fn values<O: Operation, H: Home<O>>(
         values.push_reserved(value);
     }
     Ok(values)
-}
-
-// The cells are read once nothing counts any more.
-fn settled<O: Operation>(
-    answers: Vec<Answer<O::Value>>,
-    bottom: Counting<PlainCells<O>>,
-    heap: Global,
-) -> Result<Outcome<O::Value>, AllocError>
-    ensures { IfOk result (λ p. (p.answers ≡ answers) × (p.reached ≡ bottom.counts) × (p.values.items ≡ counted bottom.below.row.items)) }
-{
-    let (mut cells, reached) = bottom.into_parts();
-    let values = values(&mut cells, heap)?;
-    Ok(Outcome {
-        answers,
-        reached,
-        values,
-    })
 }

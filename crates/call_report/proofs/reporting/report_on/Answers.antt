@@ -9,6 +9,6 @@ returns g c =
       calls = vec_items c.in_ok-calls.calls;
       listed = c.in_ok-calls.ensures;
       comparison = comparison;
-      compared = subst (λ calls. Compared g.O.Operation.algebra g.O.Notation.shown c.args.cells calls comparison) c.as_slice.ensures.value c.in_ok-comparison.ensures;
+      compared = subst (λ calls. Compared g.O.Operation.algebra g.O.Shown.shown c.args.cells calls comparison) c.as_slice.ensures.value c.in_ok-comparison.ensures;
       printed = c.in_ok-report_text.ensures;
     }

@@ -7,7 +7,7 @@ pub loop-place-preserved : goal.loop-place-preserved
 loop-place-preserved g c =
     let out = string_bytes c.loop-place.lines in
     let grown = c.in_ok-push_str.ensures.bytes ∙ ap (λ l. out ++ l) (c.as_str.ensures.value ∙ c.in_ok-cell_line.ensures) in
-    one_more (cell_line g.O.Notation.shown) c.args.values.now c.loop-place.place out _ c.loop-place.invariant c.index-values-place.result _ c.loop-place-test.true c.index-values-place.is grown
+    one_more (cell_line g.O.Shown.shown) c.args.values.now c.loop-place.place out _ c.loop-place.invariant c.index-values-place.result _ c.loop-place-test.true c.index-values-place.is grown
 
 pub returns : goal.returns
-returns g c = no_more (cell_line g.O.Notation.shown) c.args.values.now c.loop-place.place (string_bytes c.loop-place.lines) _ c.loop-place.invariant c.loop-place-test.false
+returns g c = no_more (cell_line g.O.Shown.shown) c.args.values.now c.loop-place.place (string_bytes c.loop-place.lines) _ c.loop-place.invariant c.loop-place-test.false
