@@ -4,7 +4,8 @@ ghost use Rattle.script.specs.Heads.{bench_of};
 
 use super::faults::NoBench;
 use super::lines::Line;
-use super::words::{Kind, Opening, Ranking};
+use super::words::{Opening, Ranking};
+use notation::Kind;
 
 #[derive(Clone, Copy, PartialEq, Eq, Debug)]
 pub struct Head {

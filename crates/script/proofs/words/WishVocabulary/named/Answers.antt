@@ -1,0 +1,6 @@
+use Rattle.std.proofs.Common.{codes, rules, arith}
+use Rattle.std.proofs.lemmas.Slice.Eq.{text_from_reads}
+use Rattle.script.proofs.words.WishVocabulary.named.Goals as goal
+
+pub returns-in-update : goal.returns-in-update
+returns-in-update c = rw (text_from_reads c.args.text.now (codes "update") (omega arith) (search rules))
