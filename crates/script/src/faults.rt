@@ -101,7 +101,7 @@ impl From<NoBench> for LineFault {
 #[derive(Clone, Copy, PartialEq, Eq, Debug)]
 pub enum PlayFault {
     Script(LineFault),
-    Memory,
+    Memory(AllocError),
 }
 
 impl From<LineFault> for PlayFault {
@@ -113,17 +113,17 @@ impl From<LineFault> for PlayFault {
 }
 
 impl From<AllocError> for PlayFault {
-    ghost from_gives = { λ _ r. r ≡ Memory };
+    ghost from_gives = { λ e r. r ≡ Memory e };
 
-    fn from(_none: AllocError) -> PlayFault {
-        PlayFault::Memory
+    fn from(e: AllocError) -> PlayFault {
+        PlayFault::Memory(e)
     }
 }
 
 impl<T: Drop> From<AllocFailed<T>> for PlayFault {
-    ghost from_gives = { λ _ r. r ≡ Memory };
+    ghost from_gives = { λ _ r. IsMemory r };
 
-    fn from(_value: AllocFailed<T>) -> PlayFault {
-        PlayFault::Memory
+    fn from(e: AllocFailed<T>) -> PlayFault {
+        PlayFault::Memory(e.into())
     }
 }

@@ -2,6 +2,7 @@
 #![tactic(auto)]
 
 mod calls;
+mod cuts;
 mod faults;
 mod fields;
 mod heads;
