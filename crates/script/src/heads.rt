@@ -7,6 +7,11 @@ use super::lines::Line;
 use super::words::{Opening, Ranking};
 use notation::Kind;
 
+// The most parties, ways and cells of a bench.
+const MOST_PARTIES: usize = 16;
+const MOST_WAYS: usize = 8;
+const MOST_CELLS: usize = 256;
+
 #[derive(Clone, Copy, PartialEq, Eq, Debug)]
 pub struct Head {
     pub kind: Kind,
@@ -25,9 +30,9 @@ pub fn read_bench(text: &[u8]) -> Result<Head, NoBench>
     let mut line = Line::new(1, text);
     line.word::<Opening>()?;
     let kind = line.word::<Kind>()?;
-    let parties = line.natural(1, 16)?;
-    let ways = line.natural(1, 8)?;
-    let cells = line.natural(1, 256)?;
+    let parties = line.natural(1, MOST_PARTIES)?;
+    let ways = line.natural(1, MOST_WAYS)?;
+    let cells = line.natural(1, MOST_CELLS)?;
     let ranking = line.word::<Ranking>()?;
     line.end()?;
     Ok(Head {

@@ -30,12 +30,12 @@ impl Scripted for Total {
     ghost partials = { deltas };
 
     fn read_value(line: &mut Line) -> Result<Count, FieldFault> {
-        let number = line.number(0, u32::MAX as i128)?;
+        let number = line.number(0, i128::from(u32::MAX))?;
         Ok(Count::new(number as u32))
     }
 
     fn read_partial(line: &mut Line) -> Result<Delta, FieldFault> {
-        let number = line.number(i32::MIN as i128, i32::MAX as i128)?;
+        let number = line.number(i128::from(i32::MIN), i128::from(i32::MAX))?;
         Ok(Delta::new(number as i32))
     }
 }
@@ -50,7 +50,7 @@ impl Scripted for Peak {
     }
 
     fn read_partial(line: &mut Line) -> Result<u64, FieldFault> {
-        Ok(line.natural(0, usize::MAX)? as u64)
+        Self::read_value(line)
     }
 }
 
@@ -60,10 +60,10 @@ impl Scripted for Flags {
     ghost partials = { naturals (2 ^ 16 - 1) };
 
     fn read_value(line: &mut Line) -> Result<u16, FieldFault> {
-        Ok(line.natural(0, u16::MAX as usize)? as u16)
+        Ok(line.natural(0, usize::from(u16::MAX))? as u16)
     }
 
     fn read_partial(line: &mut Line) -> Result<u16, FieldFault> {
-        Ok(line.natural(0, u16::MAX as usize)? as u16)
+        Self::read_value(line)
     }
 }

@@ -5,5 +5,3 @@ use Rattle.script.proofs.reading.read_start.Goals as goal
 pub returns-then-script-gt-LONGEST : goal.returns-then-script-gt-LONGEST
 returns-then-script-gt-LONGEST c = too_long c.args.script.now (omega (arith, c.if-script-gt-LONGEST.true))
 
-pub returns-then-script-eq0 : goal.returns-then-script-eq0
-returns-then-script-eq0 c = no_line c.args.script.now c.if-script-eq0.true
