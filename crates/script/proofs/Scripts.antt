@@ -1,5 +1,5 @@
 -- What the reader of a script has read, and what is left
-use Rattle.std.proofs.Common.{◌≡◌, ℕ, ◌+◌, ◌<◌, ◌≤◌, List, [], ◌∷◌, ◌++◌, length, None, Ok, Err, Option, Result, sym, refl, ap, ◌∙◌, append_assoc, append-nil, arith}
+use Rattle.std.proofs.Common.{◌≡◌, ℕ, ◌+◌, ◌<◌, List, [], ◌∷◌, ◌++◌, length, Ok, Err, Option, Result, sym, ap, ◌∙◌, append_assoc, arith}
 use borrow.Author.Tests.{lt-leb}
 use Rattle.model.specs.declared.Call.{Call}
 use Rattle.script.specs.Calls.{call_of}

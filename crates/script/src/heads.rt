@@ -9,7 +9,9 @@ use notation::Kind;
 
 // The most parties, ways and cells of a bench.
 const MOST_PARTIES: usize = 16;
+
 const MOST_WAYS: usize = 8;
+
 const MOST_CELLS: usize = 256;
 
 #[derive(Clone, Copy, PartialEq, Eq, Debug)]

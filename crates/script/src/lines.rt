@@ -39,9 +39,7 @@ impl<'a> Line<'a> {
         ensures rest { rest self.new ≡ (word_from W.Vocabulary.meant (rest self.old)).1 }
     {
         match self.fields.next() {
-            Field::Word { text, place } => {
-                W::named(text).ok_or(self.fault(place, Wrong::Word))
-            }
+            Field::Word { text, place } => { W::named(text).ok_or(self.fault(place, Wrong::Word)) }
             Field::Number { place, .. } => Err(self.fault(place, Wrong::Word)),
             Field::Missing { place } => Err(self.fault(place, Wrong::Missing)),
         }

@@ -3,8 +3,8 @@ ghost use Rattle.std.specs.Prelude.{◌≡◌, IfOk};
 ghost use Rattle.script.specs.Scripts.{start_of, head_of, calls_of, Added};
 
 use super::calls::read_call;
-use super::faults::{LineFault, NoBench, PlayFault};
 use super::cuts::Lines;
+use super::faults::{LineFault, NoBench, PlayFault};
 use super::heads::{Head, read_bench};
 use super::scripted::Scripted;
 use model::Call;

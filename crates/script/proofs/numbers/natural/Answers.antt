@@ -1,4 +1,4 @@
-use Rattle.std.proofs.Common.{◌∙◌, sym, ap, subst, get_or, ◌≡◌}
+use Rattle.std.proofs.Common.{◌∙◌, sym, subst}
 use Rattle.std.specs.Str.Parse.{ParsesUnsigned}
 use Rattle.script.proofs.Decimals.{plus_is, none_sign, none_padded, none_bytes, decoded, parsed, natural_is}
 use Rattle.script.proofs.numbers.natural.Goals as goal

@@ -1,4 +1,4 @@
-use Rattle.std.proofs.Common.{◌≡◌, ◌<◌, ◌+◌, ◌∷◌, ◌^◌, length, drop, inl, ap, refl, arith, length-drop}
+use Rattle.std.proofs.Common.{◌≡◌, ◌<◌, ◌+◌, ◌^◌, length, drop, inl, ap, refl, arith, length-drop}
 use Rattle.std.specs.Iterator.Adapters.{enumerate_count, enumerate_source}
 use Rattle.script.specs.Cuts.{lines, lines_left}
 use Rattle.script.proofs.Cutting.{others, few_lines}

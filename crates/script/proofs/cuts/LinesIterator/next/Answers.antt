@@ -1,4 +1,4 @@
-use Rattle.std.proofs.Common.{◌≡◌, ◌<◌, ◌∷◌, length, refl, ap, arith, rules}
+use Rattle.std.proofs.Common.{◌≡◌, ◌<◌, ◌∷◌, length, refl, ap, rules}
 use Rattle.script.specs.Cuts.{lines}
 use Rattle.script.proofs.Cutting.{first_line}
 use Rattle.script.proofs.cuts.LinesIterator.next.Goals as goal
