@@ -1,10 +1,9 @@
 -- Which texts write a number
-use Rattle.std.proofs.Common.{◌≡◌, ℕ, ◌^◌, ◌<◌, ◌≤◌, ◌-◌, Bool, true, false, cond, ◌&&◌, eqb, leb, List, [], ◌∷◌, length, get_or, Some, None, Ok, Err, IsUtf8, MatchOption, MatchResult, Bor, decimal, Option, Result, sym, refl, ap, ◌∙◌, subst, ⊎_elim, arith, ltb-true, eqb-true, le-leb, leb-true}
+use Rattle.std.proofs.Common.{◌≡◌, ℕ, ◌^◌, ◌<◌, Bool, true, false, eqb, List, [], ◌∷◌, length, get_or, Some, None, Ok, Err, IsUtf8, MatchOption, MatchResult, Bor, decimal, Option, Result, sym, refl, ap, ◌∙◌, subst, ⊎_elim, arith}
 use Rattle.std.specs.Bool.{Decides}
 use Rattle.std.specs.List.{starts_with}
 use Rattle.std.specs.Result.{result_ok}
 use Rattle.std.specs.Str.Parse.{AllDigits, digits_value, ParsesUnsigned}
-use Rattle.std.specs.Str.{bytes_eq}
 use Rattle.std.proofs.lemmas.Fmt.{decimal_nonempty, decimal_digit, first_decimal, digits_decimal, IsAscii-decimal, parse-decimal, decimal-digits_value, digits_value-decimal}
 use Rattle.std.proofs.lemmas.Slice.Eq.{bytes_eq-Decides}
 use Rattle.std.proofs.lemmas.Str.Parse.{IsNumeralModel, numerals_by_value, tells_digits, not_in_digits, parse_plain}
@@ -14,10 +13,6 @@ use Rattle.script.specs.Numbers.{Natural, leads_with_zero, natural_of}
 
 own : IsNumeralModel (AllDigits 10) (digits_value 10)
 own = numerals_by_value (AllDigits 10) tells_digits
-
-both : (a b : Bool) → a && b ≡ true → (a ≡ true) × (b ≡ true)
-both true b e = (refl, e)
-both false b e = absurd cc
 
 pub plus_is : (bs : List ℕ) (r : Bool) → r ≡ starts_with eqb bs (43 ∷ []) → Decides r (get_or bs 0 0 ≡ 43)
 plus_is [] r e = (λ t. absurd cc, λ z. absurd (omega arith))
@@ -29,10 +24,10 @@ none_sign bs e n h d =
     not_in_digits own (decimal n) 43 (digits_decimal own n small) (λ h. omega arith) 0 (decimal_nonempty n small) (ap (λ l. get_or l 0 0) d ∙ e)
 
 pub none_padded : (bs : List ℕ) → leads_with_zero bs ≡ true → Natural bs None
-none_padded bs padded n h d =
-    let is = both _ _ padded in
-    let long : 1 < length bs = ltb-true 1 (length bs) is.0 in
-    let e = eqb-true (get_or bs 0 0) 48 is.1 in
+none_padded [] padded n h d = absurd cc
+none_padded (b ∷ []) padded n h d = absurd cc
+none_padded (b ∷ c ∷ cs) padded n h d =
+    let zero : b ≡ 48 = grind (arith, padded) in
     ⊎_elim
     (λ some. omega (arith, first_decimal n some (omega arith), ap (λ l. get_or l 0 0) d))
     (λ zero. omega (arith, ap length (decimal_digit n (omega arith)), ap length d))
@@ -58,15 +53,9 @@ parsed {E} bs (Ok n) plain short reads =
     (omega (arith, got.0.2, got.1), ap decimal got.1 ∙ decimal-digits_value own bs got.0.0 got.0.1 (lone bs short) got.0.2)
 parsed {E} bs (Err e) plain short reads = λ n h d. let back = parse-decimal 64 n bs (Err e) (omega arith) (omega arith) (sym d) reads in absurd cc
 
-yes : (bs : List ℕ) (n : ℕ) → digits_value 10 bs ≡ n → decimal n ≡ bs → n ≤ 2 ^ 64 - 1 → natural_of bs ≡ Some n
-yes bs n v d h = rw v (rw ((bytes_eq-Decides (decimal n) bs).1 d) (rw (le-leb n (2 ^ 64 - 1) h)))
-
-no : (bs : List ℕ) → (decimal (digits_value 10 bs) ≡ bs → digits_value 10 bs ≤ 2 ^ 64 - 1 → ⊥) → (a b : Bool) → bytes_eq (decimal (digits_value 10 bs)) bs ≡ a → leb (digits_value 10 bs) (2 ^ 64 - 1) ≡ b → cond (a && b) (Some (digits_value 10 bs)) None ≡ None
-no bs not true true s l = absurd (not ((bytes_eq-Decides _ bs).0 s) (leb-true _ (2 ^ 64 - 1) l))
-no bs not true false s l = refl
-no bs not false b s l = refl
-
 -- the relation pins the number
 pub natural_is : (bs : List ℕ) (r : Option ℕ) → Natural bs r → r ≡ natural_of bs
-natural_is bs None h = sym (no bs (λ d l. h _ l d) _ _ refl refl)
-natural_is bs (Some n) h = sym (yes bs n (ap (digits_value 10) (sym h.1) ∙ digits_value-decimal own n (omega (arith, h.0))) h.1 h.0)
+natural_is bs None h = grind (arith, h (digits_value 10 bs), bytes_eq-Decides (decimal (digits_value 10 bs)) bs)
+natural_is bs (Some n) h =
+    let value : digits_value 10 bs ≡ n = ap (digits_value 10) (sym h.1) ∙ digits_value-decimal own n (omega (arith, h.0)) in
+    grind (arith, h, value, bytes_eq-Decides (decimal n) bs)

@@ -39,7 +39,7 @@ impl<'a> Line<'a> {
         ensures rest { rest self.new ≡ (word_from W.Vocabulary.meant (rest self.old)).1 }
     {
         match self.fields.next() {
-            Field::Word { text, place } => { W::named(text).ok_or(self.fault(place, Wrong::Word)) }
+            Field::Word { text, place } => W::named(text).ok_or(self.fault(place, Wrong::Word)),
             Field::Number { place, .. } => Err(self.fault(place, Wrong::Word)),
             Field::Missing { place } => Err(self.fault(place, Wrong::Missing)),
         }
@@ -66,6 +66,7 @@ impl<'a> Line<'a> {
         ensures rest { rest self.new ≡ (natural_from least most (rest self.old)).1 }
         ensures most { IfOk result (λ n. n ≤ most) }
     {
+        // `as`, which is proved to lose nothing here: a `try_from` would owe a fault for what cannot come.
         let number = self.number(least as i128, most as i128)?;
         Ok(number as usize)
     }

@@ -63,6 +63,7 @@ fn read_lines<O: Scripted>(
     ensures { Added (calls_of O.Scripted.values O.Scripted.partials script.now) calls.old.items calls.new.items result }
 {
     let mut lines = Lines::new(script);
+    // The first describes the bench.
     let _head = lines.next();
     for (i, line) in lines.enumerate() {
         calls.push(read_call::<O>(i + 2, line)?)?;

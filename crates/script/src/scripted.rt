@@ -24,6 +24,8 @@ pub trait Scripted: Operation {
         ensures rest { rest line.new ≡ (partials (rest line.old)).1 };
 }
 
+// Below, `as` narrows a number whose range was tested, which is proved to lose nothing: a `try_from` would owe a fault
+// for what cannot come.
 impl Scripted for Total {
     ghost values = { counts };
 

@@ -30,7 +30,7 @@ impl Vocabulary for Opening {
     }
 }
 
-// The operations that a script can name.
+// The operations that a script can name: all that have a name.
 impl Vocabulary for Kind {
     ghost meant = { kind_of };
 

@@ -31,6 +31,6 @@ loop-i-preserved g c =
     let step = c.in-Some.ensures.steps in
     let fewer = ap length step.0 in
     record {
-      sofar = rw step.2 (one_more _ _ step.0 old.sofar _ _ (rw (← step.1) c.in_ok-read_call.ensures) c.in_ok-push.ensures.items);
+      sofar = rw step.2 (one_more _ _ step.0 old.sofar _ (omega (arith, step.1)) _ _ c.in_ok-read_call.ensures c.in_ok-push.ensures.items);
       few = omega (arith, fewer, step.2, old.few);
     }
