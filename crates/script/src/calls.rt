@@ -1,7 +1,7 @@
 // The call that a line says.
 ghost use Rattle.std.specs.Prelude.{◌≡◌};
 ghost use Rattle.script.specs.Lines.{rest};
-ghost use Rattle.script.specs.Calls.{index_from, request_from, fields_from, call_of};
+ghost use Rattle.script.specs.Calls.{index_from, request_from, said_from, call_of};
 
 use super::faults::{FieldFault, LineFault};
 use super::lines::Line;
@@ -44,8 +44,8 @@ fn read_fields<O: Scripted>(
     verb: Verb,
     line: &mut Line,
 ) -> Result<Call<O::Value, O::Partial>, FieldFault>
-    ensures value { result ≡ (fields_from O.Scripted.values O.Scripted.partials verb (rest line.old)).0 }
-    ensures rest { rest line.new ≡ (fields_from O.Scripted.values O.Scripted.partials verb (rest line.old)).1 }
+    ensures value { result ≡ (said_from O.Scripted.values O.Scripted.partials verb (rest line.old)).0 }
+    ensures rest { rest line.new ≡ (said_from O.Scripted.values O.Scripted.partials verb (rest line.old)).1 }
 {
     Ok(match verb {
         Verb::Post => Call::Post {
