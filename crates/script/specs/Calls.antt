@@ -2,7 +2,8 @@
 --   index_from    the number of a party or a cell, which the bench may have or not
 --   wished_from   what a post asks for of a cell, by its word
 --   request_from  what a post asks for
---   verb_from     a call, by its word
+--   said_from     a call, by its word, from as many fields as it takes
+--   verb_from     the same where they are all that are left of the line
 --   call_from     a call, which takes all fields of its line
 --   call_of       the call of a line with its number, or its fault
 use Rattle.std.specs.Prelude.{ℕ, List, Ok, Err, Result}
@@ -33,12 +34,15 @@ module _ {V P : Type 0} (values : Rest → Result V FieldFault × Rest) (partial
   abbrev pub request_from : Rest → Result (Request V P) FieldFault × Rest
   request_from s = then (word_from wish_of s) (λ w t. then (index_from t) (λ cell u. wished_from w cell u))
 
+  abbrev pub said_from : Verb → Rest → Result (Call V P) FieldFault × Rest
+  said_from verb.Post s = then (index_from s) (λ party t. mapped (call.Post party) (request_from t))
+  said_from verb.Advance s = mapped call.Advance (index_from s)
+  said_from verb.Collect s = mapped call.Collect (index_from s)
+  said_from verb.Yield s = then (index_from s) (λ party t. mapped (call.Yield party) (index_from t))
+  said_from verb.Settle s = (Ok call.Settle, s)
+
   abbrev pub verb_from : Verb → Rest → Result (Call V P) FieldFault × Rest
-  verb_from verb.Post s = then (index_from s) (λ party t. then (request_from t) (λ r u. last (call.Post party r) u))
-  verb_from verb.Advance s = then (index_from s) (λ cell t. last (call.Advance cell) t)
-  verb_from verb.Collect s = then (index_from s) (λ party t. last (call.Collect party) t)
-  verb_from verb.Yield s = then (index_from s) (λ party t. then (index_from t) (λ cell u. last (call.Yield party cell) u))
-  verb_from verb.Settle s = last call.Settle s
+  verb_from v s = then (said_from v s) (λ call t. last call t)
 
   abbrev pub call_from : Rest → Result (Call V P) FieldFault × Rest
   call_from s = then (word_from verb_of s) (λ v t. verb_from v t)

@@ -3,10 +3,12 @@
 --   seen     a field of the code, so
 --   classed  what a field of these bytes at a place is
 --   first    the first of the fields to come; where there is none, one is missing at the line's end
+--   from_end  the fields of the last part of a line, by the line's end
 --   left     the fields that a reader of them has still to give
 --   end      its line's length
-use Rattle.std.specs.Prelude.{ℕ, List, [], ◌∷◌, length, ℤ, Some, None, Option}
-use Rattle.script.specs.Cuts.{fields_from}
+use Rattle.std.specs.Prelude.{ℕ, ◌-◌, List, [], ◌∷◌, length, ℤ, Some, None, Option, unwrap_or}
+use Rattle.std.specs.Option.{option_copied}
+use Rattle.script.specs.Cuts.{placed, tail_parts}
 use Rattle.script.specs.Numbers.{whole_of}
 use Rattle.script.specs.declared.fields.Field.{Field}
 use Rattle.script.specs.declared.fields.Field.TheVariants.{Word, Number, Missing}
@@ -33,8 +35,11 @@ abbrev pub first : ℕ → List (ℕ × List ℕ) → Seen
 first e [] = missing e
 first e (f ∷ fs) = classed f.0 f.1
 
+abbrev pub from_end : ℕ → Option (List ℕ) → List (ℕ × List ℕ)
+from_end e rest = placed (e - length (unwrap_or rest [])) (tail_parts 32 rest)
+
 abbrev pub left : Fields → List (ℕ × List ℕ)
-left r = fields_from r.line.now r.pos
+left r = from_end r.end (option_copied r.rest)
 
 abbrev pub end : Fields → ℕ
-end r = length r.line.now
+end r = r.end

@@ -2,8 +2,9 @@
 --   head_from  the bench that it describes
 --   bench_of   the bench of a first line; a line with any wrong field describes none
 use Rattle.std.specs.Prelude.{ℕ, List, Ok, Err, Result}
+use Rattle.notation.specs.Kinds.{kind_of}
 use Rattle.script.specs.Lines.{Rest, opened, word_from, natural_from, then, last}
-use Rattle.script.specs.Words.{opening_of, kind_of, ranking_of}
+use Rattle.script.specs.Words.{opening_of, ranking_of}
 use Rattle.script.specs.declared.faults.FieldFault.{FieldFault}
 use Rattle.script.specs.declared.faults.NoBench.{NoBench}
 use Rattle.script.specs.declared.heads.Head.{Head}

@@ -4,7 +4,8 @@
 --   rest          a reader of the code, so
 --   next          the next field
 --   passed        the rest without it
---   fault         what is wrong at a place of the line
+--   fault_at      what is wrong at a place of the line
+--   fault         that, answered
 --   word_at       a field as one of the words that are due
 --   number_at     as a number of a range
 --   end_at        as none, for the line is to end
@@ -40,8 +41,11 @@ next s = first s.end s.fields
 abbrev pub passed : Rest → Rest
 passed s = record { line = s.line; end = s.end; fields = drop 1 s.fields }
 
+abbrev pub fault_at : ℕ → ℕ → Wrong → FieldFault
+fault_at l p w = record { line = l; place = p; wrong = w }
+
 abbrev pub fault : {A : Type 0} → ℕ → ℕ → Wrong → Result A FieldFault
-fault l p w = Err (record { line = l; place = p; wrong = w })
+fault l p w = Err (fault_at l p w)
 
 abbrev pub known : {A : Type 0} → ℕ → ℕ → Option A → Result A FieldFault
 known l p (Some a) = Ok a

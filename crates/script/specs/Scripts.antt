@@ -49,4 +49,4 @@ module _ {V P : Type 0} (values : Rest → Result V FieldFault × Rest) (partial
 abbrev pub Added : {C : Type 0} → List C × Option LineFault → List C → List C → Result (Unit {0}) PlayFault → Type 0
 Added o before now (Ok _) = (now ≡ before ++ o.0) × (o.1 ≡ None)
 Added o before now (Err (Script f)) = (now ≡ before ++ o.0) × (o.1 ≡ Some f)
-Added o before now (Err Memory) = Unit {0}
+Added o before now (Err (Memory _)) = Unit {0}

@@ -1,6 +1,5 @@
 -- The words of a script, and what each means; a field that is none of them means nothing
 --   opening_of  the word that a script begins with
---   kind_of     the operations
 --   ranking_of  the victim rules
 --   verb_of     the calls
 --   wish_of     what a post asks for
@@ -8,8 +7,6 @@ use Rattle.std.specs.Prelude.{ℕ, cond, List, Some, None, codes, Option}
 use Rattle.std.specs.Str.{bytes_eq}
 use Rattle.script.specs.declared.words.Opening.{Opening}
 use Rattle.script.specs.declared.words.Opening.TheVariants as opening
-use Rattle.script.specs.declared.words.Kind.{Kind}
-use Rattle.script.specs.declared.words.Kind.TheVariants as kind
 use Rattle.script.specs.declared.words.Ranking.{Ranking}
 use Rattle.script.specs.declared.words.Ranking.TheVariants as ranking
 use Rattle.script.specs.declared.words.Verb.{Verb}
@@ -19,13 +16,6 @@ use Rattle.script.specs.declared.words.Wish.TheVariants as wish
 
 abbrev pub opening_of : List ℕ → Option Opening
 opening_of bs = cond (bytes_eq bs (codes "bench")) (Some opening.Bench) None
-
-abbrev pub kind_of : List ℕ → Option Kind
-kind_of bs =
-    cond (bytes_eq bs (codes "total")) (Some kind.Total)
-    (cond (bytes_eq bs (codes "peak")) (Some kind.Peak)
-    (cond (bytes_eq bs (codes "flags")) (Some kind.Flags)
-    None))
 
 abbrev pub ranking_of : List ℕ → Option Ranking
 ranking_of bs =

@@ -1,6 +1,6 @@
 // What is wrong with a script, from a field up to the play.
 ghost use Rattle.std.specs.Prelude.{◌≡◌};
-ghost use Rattle.script.specs.Faults.{to_line, number_of, broken};
+ghost use Rattle.script.specs.Faults.{to_line, number_of, cause_of, broken};
 ghost use Rattle.script.specs.declared.faults.PlayFault.TheVariants.{Script, Memory};
 
 use std::alloc::{AllocError, AllocFailed};
@@ -29,10 +29,10 @@ pub struct FieldFault {
 #[derive(Clone, Copy, PartialEq, Eq, Debug)]
 pub enum Cause {
     // The script is too long, or its first line describes no bench.
-    Broken,
-    Word,
-    Number,
-    Fields,
+    Broken = 21,
+    Word = 22,
+    Number = 23,
+    Fields = 24,
 }
 
 impl Cause {
@@ -40,11 +40,18 @@ impl Cause {
     pub fn number(self) -> u8
         ensures { result ≡ number_of self }
     {
-        match self {
-            Cause::Broken => 21,
-            Cause::Word => 22,
-            Cause::Number => 23,
-            Cause::Fields => 24,
+        self as u8
+    }
+}
+
+impl From<Wrong> for Cause {
+    ghost from_gives = { λ wrong cause. cause ≡ cause_of wrong };
+
+    fn from(wrong: Wrong) -> Cause {
+        match wrong {
+            Wrong::Word => Cause::Word,
+            Wrong::Number => Cause::Number,
+            Wrong::Missing | Wrong::Extra => Cause::Fields,
         }
     }
 }
@@ -61,16 +68,10 @@ impl From<FieldFault> for LineFault {
     ghost from_gives = { λ e r. r ≡ to_line e };
 
     fn from(e: FieldFault) -> LineFault {
-        let cause = match e.wrong {
-            Wrong::Word => Cause::Word,
-            Wrong::Number => Cause::Number,
-            Wrong::Missing => Cause::Fields,
-            Wrong::Extra => Cause::Fields,
-        };
         LineFault {
             line: e.line,
             place: e.place,
-            cause,
+            cause: e.wrong.into(),
         }
     }
 }
@@ -101,7 +102,7 @@ impl From<NoBench> for LineFault {
 #[derive(Clone, Copy, PartialEq, Eq, Debug)]
 pub enum PlayFault {
     Script(LineFault),
-    Memory,
+    Memory(AllocError),
 }
 
 impl From<LineFault> for PlayFault {
@@ -113,17 +114,17 @@ impl From<LineFault> for PlayFault {
 }
 
 impl From<AllocError> for PlayFault {
-    ghost from_gives = { λ _ r. r ≡ Memory };
+    ghost from_gives = { λ e r. r ≡ Memory e };
 
-    fn from(_none: AllocError) -> PlayFault {
-        PlayFault::Memory
+    fn from(e: AllocError) -> PlayFault {
+        PlayFault::Memory(e)
     }
 }
 
 impl<T: Drop> From<AllocFailed<T>> for PlayFault {
-    ghost from_gives = { λ _ r. r ≡ Memory };
+    ghost from_gives = { λ _ r. r ≡ Memory (record {}) };
 
-    fn from(_value: AllocFailed<T>) -> PlayFault {
-        PlayFault::Memory
+    fn from(e: AllocFailed<T>) -> PlayFault {
+        PlayFault::Memory(e.into())
     }
 }

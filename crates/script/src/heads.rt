@@ -4,7 +4,15 @@ ghost use Rattle.script.specs.Heads.{bench_of};
 
 use super::faults::NoBench;
 use super::lines::Line;
-use super::words::{Kind, Opening, Ranking};
+use super::words::{Opening, Ranking};
+use notation::Kind;
+
+// The most parties, ways and cells of a bench.
+const MOST_PARTIES: usize = 16;
+
+const MOST_WAYS: usize = 8;
+
+const MOST_CELLS: usize = 256;
 
 #[derive(Clone, Copy, PartialEq, Eq, Debug)]
 pub struct Head {
@@ -23,17 +31,14 @@ pub fn read_bench(text: &[u8]) -> Result<Head, NoBench>
 {
     let mut line = Line::new(1, text);
     line.word::<Opening>()?;
-    let kind = line.word::<Kind>()?;
-    let parties = line.natural(1, 16)?;
-    let ways = line.natural(1, 8)?;
-    let cells = line.natural(1, 256)?;
-    let ranking = line.word::<Ranking>()?;
+    // `as`, since the limits are proved to fit: a `try_from` would owe a fault for what cannot come.
+    let head = Head {
+        kind: line.word()?,
+        parties: line.natural(1, MOST_PARTIES)? as u8,
+        ways: line.natural(1, MOST_WAYS)? as u8,
+        cells: line.natural(1, MOST_CELLS)? as u16,
+        ranking: line.word()?,
+    };
     line.end()?;
-    Ok(Head {
-        kind,
-        parties: parties as u8,
-        ways: ways as u8,
-        cells: cells as u16,
-        ranking,
-    })
+    Ok(head)
 }

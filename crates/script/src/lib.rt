@@ -2,6 +2,7 @@
 #![tactic(auto)]
 
 mod calls;
+mod cuts;
 mod faults;
 mod fields;
 mod heads;
@@ -16,6 +17,7 @@ mod words;
 pub use faults::{Cause, FieldFault, LineFault, PlayFault, Wrong};
 pub use heads::Head;
 pub use lines::Line;
+pub use notation::Kind;
 pub use reading::{Reading, read_calls, read_head};
 pub use scripted::Scripted;
-pub use words::{Kind, Ranking, Vocabulary};
+pub use words::{Ranking, Vocabulary};

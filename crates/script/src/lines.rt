@@ -1,6 +1,6 @@
 // The reader of one line, which knows the line's number.
 ghost use Rattle.std.specs.Prelude.{◌≡◌, ◌≤◌, ◌≤ℤ◌, IfOk};
-ghost use Rattle.script.specs.Lines.{Rest, opened, rest, word_from, number_from, natural_from, end_from};
+ghost use Rattle.script.specs.Lines.{opened, rest, fault_at, word_from, number_from, natural_from, end_from};
 
 use super::faults::{FieldFault, Wrong};
 use super::fields::{Field, Fields};
@@ -22,31 +22,26 @@ impl<'a> Line<'a> {
         }
     }
 
+    // What is wrong at a place of the line.
+    fn fault(&self, place: usize, wrong: Wrong) -> FieldFault
+        ensures { result ≡ fault_at self.now.number place wrong }
+    {
+        FieldFault {
+            line: self.number,
+            place,
+            wrong,
+        }
+    }
+
     // One of the words that are due.
     pub fn word<W: Vocabulary>(&mut self) -> Result<W, FieldFault>
         ensures value { result ≡ (word_from W.Vocabulary.meant (rest self.old)).0 }
         ensures rest { rest self.new ≡ (word_from W.Vocabulary.meant (rest self.old)).1 }
     {
-        let line = self.number;
         match self.fields.next() {
-            Field::Word { text, place } => match W::named(text) {
-                Some(word) => Ok(word),
-                None => Err(FieldFault {
-                    line,
-                    place,
-                    wrong: Wrong::Word,
-                }),
-            },
-            Field::Number { place, .. } => Err(FieldFault {
-                line,
-                place,
-                wrong: Wrong::Word,
-            }),
-            Field::Missing { place } => Err(FieldFault {
-                line,
-                place,
-                wrong: Wrong::Missing,
-            }),
+            Field::Word { text, place } => W::named(text).ok_or(self.fault(place, Wrong::Word)),
+            Field::Number { place, .. } => Err(self.fault(place, Wrong::Word)),
+            Field::Missing { place } => Err(self.fault(place, Wrong::Missing)),
         }
     }
 
@@ -56,29 +51,12 @@ impl<'a> Line<'a> {
         ensures rest { rest self.new ≡ (number_from least most (rest self.old)).1 }
         ensures within { IfOk result (λ z. (least ≤ℤ z) × (z ≤ℤ most)) }
     {
-        let line = self.number;
         match self.fields.next() {
-            Field::Number { value, place } => {
-                if least <= value && value <= most {
-                    Ok(value)
-                } else {
-                    Err(FieldFault {
-                        line,
-                        place,
-                        wrong: Wrong::Number,
-                    })
-                }
+            Field::Number { value, .. } if (least..=most).contains(&value) => Ok(value),
+            Field::Number { place, .. } | Field::Word { place, .. } => {
+                Err(self.fault(place, Wrong::Number))
             }
-            Field::Word { place, .. } => Err(FieldFault {
-                line,
-                place,
-                wrong: Wrong::Number,
-            }),
-            Field::Missing { place } => Err(FieldFault {
-                line,
-                place,
-                wrong: Wrong::Missing,
-            }),
+            Field::Missing { place } => Err(self.fault(place, Wrong::Missing)),
         }
     }
 
@@ -88,6 +66,7 @@ impl<'a> Line<'a> {
         ensures rest { rest self.new ≡ (natural_from least most (rest self.old)).1 }
         ensures most { IfOk result (λ n. n ≤ most) }
     {
+        // `as`, which is proved to lose nothing here: a `try_from` would owe a fault for what cannot come.
         let number = self.number(least as i128, most as i128)?;
         Ok(number as usize)
     }
@@ -97,19 +76,11 @@ impl<'a> Line<'a> {
         ensures value { result ≡ (end_from (rest self.old)).0 }
         ensures rest { rest self.new ≡ (end_from (rest self.old)).1 }
     {
-        let line = self.number;
         match self.fields.next() {
             Field::Missing { .. } => Ok(()),
-            Field::Word { place, .. } => Err(FieldFault {
-                line,
-                place,
-                wrong: Wrong::Extra,
-            }),
-            Field::Number { place, .. } => Err(FieldFault {
-                line,
-                place,
-                wrong: Wrong::Extra,
-            }),
+            Field::Word { place, .. } | Field::Number { place, .. } => {
+                Err(self.fault(place, Wrong::Extra))
+            }
         }
     }
 }

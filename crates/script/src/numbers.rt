@@ -6,43 +6,25 @@ ghost use Rattle.script.specs.Numbers.{leads_with_zero, natural_of, whole_of};
 fn padded(text: &[u8]) -> bool
     ensures { result ≡ leads_with_zero text.now }
 {
-    text.len() > 1 && text[0] == b'0'
+    matches!(text, [b'0', _, ..])
 }
 
 // The number that the text writes without a sign.
 fn natural(text: &[u8]) -> Option<u64>
     ensures { result ≡ natural_of text.now }
 {
-    if text.is_empty() || text[0] == b'+' {
+    if text.starts_with(b"+") || padded(text) {
         return None;
     }
-    if padded(text) {
-        return None;
-    }
-    let Ok(word) = std::str::from_utf8(text) else {
-        return None;
-    };
-    let Ok(n) = word.parse::<u64>() else {
-        return None;
-    };
-    Some(n)
+    std::str::from_utf8(text).ok()?.parse().ok()
 }
 
 // The number that the text writes, with a sign or without.
 pub fn whole(text: &[u8]) -> Option<i128>
     ensures { result ≡ whole_of text.now }
 {
-    if text.len() > 0 && text[0] == b'-' {
-        let Some(n) = natural(&text[1..]) else {
-            return None;
-        };
-        if n == 0 {
-            return None;
-        }
-        return Some(-(n as i128));
-    }
-    match natural(text) {
-        Some(n) => Some(n as i128),
-        None => None,
+    match text.strip_prefix(b"-") {
+        Some(digits) => natural(digits).filter(|n| *n > 0).map(|n| -i128::from(n)),
+        None => natural(text).map(i128::from),
     }
 }

@@ -3,8 +3,8 @@ ghost use Rattle.std.specs.Prelude.{◌≡◌, IfOk};
 ghost use Rattle.script.specs.Scripts.{start_of, head_of, calls_of, Added};
 
 use super::calls::read_call;
+use super::cuts::Lines;
 use super::faults::{LineFault, NoBench, PlayFault};
-use super::fields::first_line;
 use super::heads::{Head, read_bench};
 use super::scripted::Scripted;
 use model::Call;
@@ -26,11 +26,7 @@ fn read_start(script: &[u8]) -> Result<Head, NoBench>
     if script.len() > LONGEST {
         return Err(NoBench);
     }
-    if script.len() == 0 {
-        return Err(NoBench);
-    }
-    let (line, _rest) = first_line(script);
-    read_bench(line)
+    read_bench(Lines::new(script).next().ok_or(NoBench)?)
 }
 
 // What the lines after the first say: the calls before the first line with a fault, and that fault, if there is one.
@@ -56,7 +52,7 @@ pub fn read_calls<O: Scripted>(
             calls,
             fault: Some(fault),
         }),
-        Err(PlayFault::Memory) => Err(AllocError),
+        Err(PlayFault::Memory(none)) => Err(none),
     }
 }
 
@@ -66,17 +62,11 @@ fn read_lines<O: Scripted>(
 ) -> Result<(), PlayFault>
     ensures { Added (calls_of O.Scripted.values O.Scripted.partials script.now) calls.old.items calls.new.items result }
 {
-    if script.len() == 0 {
-        return Ok(());
-    }
-    let (_head, mut rest) = first_line(script);
-    let mut read = 1usize;
-    while rest.len() > 0 {
-        let (line, after) = first_line(rest);
-        let call = read_call::<O>(read + 1, line)?;
-        calls.push(call)?;
-        rest = after;
-        read += 1;
+    let mut lines = Lines::new(script);
+    // The first describes the bench.
+    let _head = lines.next();
+    for (i, line) in lines.enumerate() {
+        calls.push(read_call::<O>(i + 2, line)?)?;
     }
     Ok(())
 }

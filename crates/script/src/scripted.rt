@@ -24,18 +24,20 @@ pub trait Scripted: Operation {
         ensures rest { rest line.new ≡ (partials (rest line.old)).1 };
 }
 
+// Below, `as` narrows a number whose range was tested, which is proved to lose nothing: a `try_from` would owe a fault
+// for what cannot come.
 impl Scripted for Total {
     ghost values = { counts };
 
     ghost partials = { deltas };
 
     fn read_value(line: &mut Line) -> Result<Count, FieldFault> {
-        let number = line.number(0, u32::MAX as i128)?;
+        let number = line.number(0, i128::from(u32::MAX))?;
         Ok(Count::new(number as u32))
     }
 
     fn read_partial(line: &mut Line) -> Result<Delta, FieldFault> {
-        let number = line.number(i32::MIN as i128, i32::MAX as i128)?;
+        let number = line.number(i128::from(i32::MIN), i128::from(i32::MAX))?;
         Ok(Delta::new(number as i32))
     }
 }
@@ -50,7 +52,7 @@ impl Scripted for Peak {
     }
 
     fn read_partial(line: &mut Line) -> Result<u64, FieldFault> {
-        Ok(line.natural(0, usize::MAX)? as u64)
+        Self::read_value(line)
     }
 }
 
@@ -60,10 +62,10 @@ impl Scripted for Flags {
     ghost partials = { naturals (2 ^ 16 - 1) };
 
     fn read_value(line: &mut Line) -> Result<u16, FieldFault> {
-        Ok(line.natural(0, u16::MAX as usize)? as u16)
+        Ok(line.natural(0, usize::from(u16::MAX))? as u16)
     }
 
     fn read_partial(line: &mut Line) -> Result<u16, FieldFault> {
-        Ok(line.natural(0, u16::MAX as usize)? as u16)
+        Self::read_value(line)
     }
 }

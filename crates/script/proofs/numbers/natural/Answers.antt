@@ -1,26 +1,24 @@
-use Rattle.std.proofs.Common.{sym, ◌∙◌, subst, arith, true-eqb, false-eqb}
+use Rattle.std.proofs.Common.{◌∙◌, sym, subst}
 use Rattle.std.specs.Str.Parse.{ParsesUnsigned}
-use Rattle.script.proofs.Decimals.{none_empty, none_sign, none_padded, none_bytes, none_read, one_read, lone, natural_is}
+use Rattle.script.proofs.Decimals.{plus_is, none_sign, none_padded, none_bytes, decoded, parsed, natural_is}
 use Rattle.script.proofs.numbers.natural.Goals as goal
-use Rattle.script.proofs.numbers.natural.Goals.{then-is_empty-via-then-is_empty, then-is_empty-via-else-is_empty+then-text-eq43}
+use Rattle.script.proofs.numbers.natural.Goals.{then-starts_with-via-then-starts_with, then-starts_with-via-else-starts_with+then-padded}
 
-pub returns-then-is_empty : goal.returns-then-is_empty
-returns-then-is_empty c =
-    natural_is c.args.text.now _ (elim c.then-is_empty.branch [
-      | then-is_empty-via-then-is_empty w ↦ none_empty _ (true-eqb _ 0 (sym w.if-is_empty.true ∙ c.is_empty.ensures))
-      | then-is_empty-via-else-is_empty+then-text-eq43 w ↦ none_sign _ 43 (λ h. omega arith) w.if-text-eq43.true
+pub returns-then-starts_with : goal.returns-then-starts_with
+returns-then-starts_with c =
+    natural_is c.args.text.now _ (elim c.then-starts_with.branch [
+      | then-starts_with-via-then-starts_with w ↦ none_sign _ ((plus_is c.args.text.now _ c.starts_with.ensures.value).0 w.if-starts_with.true)
+      | then-starts_with-via-else-starts_with+then-padded w ↦ none_padded c.args.text.now (sym w.padded.ensures ∙ w.if-padded.true)
     ])
 
-pub returns-then-padded : goal.returns-then-padded
-returns-then-padded c = natural_is c.args.text.now _ (none_padded c.args.text.now (sym c.padded.ensures ∙ c.if-padded.true))
-
-pub returns-in_default : goal.returns-in_default
-returns-in_default c = natural_is c.args.text.now _ (none_bytes _ c.in_default.ensures.cases.0)
-
-pub returns-in_default-parse : goal.returns-in_default-parse
-returns-in_default-parse c = natural_is c.args.text.now _ (none_read c.args.text.now _ _ (subst (λ l. ParsesUnsigned 64 10 l c.parse.result) c.in-Ok.ensures.cases.0 c.parse.ensures.value.0) c.in_default-parse.is)
+pub returns-in_err-ok : goal.returns-in_err-ok
+returns-in_err-ok c =
+    let none = decoded _ c.args.text.now _ _ c.ok.ensures.value c.from_utf8.ensures.cases in
+    c.from_residual.ensures ∙ natural_is c.args.text.now _ (none_bytes _ (rw c.in_err-ok.was at none))
 
 pub returns : goal.returns
 returns c =
-    let short = lone c.args.text.now (sym c.padded.ensures ∙ c.if-padded.false) (false-eqb _ 0 c.if-is_empty.ensures) in
-    natural_is c.args.text.now _ (one_read c.args.text.now _ _ c.if-text-eq43.false short (subst (λ l. ParsesUnsigned 64 10 l c.parse.result) c.in-Ok.ensures.cases.0 c.parse.ensures.value.0) c.in-Ok-parse.is)
+    let text = c.args.text.now in
+    let same = decoded _ text _ _ c.ok.ensures.value c.from_utf8.ensures.cases in
+    let parses = subst (λ l. ParsesUnsigned 64 10 l c.parse.result) (rw c.in_ok-ok.was at same) c.parse.ensures.value.0 in
+    c.ok-2.ensures.value ∙ natural_is text _ (parsed text _ (λ z. absurd (cc ((plus_is text _ c.starts_with.ensures.value).1 z, c.if-starts_with.false))) (sym c.padded.ensures ∙ c.if-padded.false) parses)

@@ -1,9 +1,0 @@
-use Rattle.std.proofs.Common.{arith}
-use Rattle.script.proofs.Scripts.{too_long, no_line}
-use Rattle.script.proofs.reading.read_start.Goals as goal
-
-pub returns-then-script-gt-LONGEST : goal.returns-then-script-gt-LONGEST
-returns-then-script-gt-LONGEST c = too_long c.args.script.now (omega (arith, c.if-script-gt-LONGEST.true))
-
-pub returns-then-script-eq0 : goal.returns-then-script-eq0
-returns-then-script-eq0 c = no_line c.args.script.now c.if-script-eq0.true
