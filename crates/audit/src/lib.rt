@@ -18,7 +18,8 @@ use sizes::MOST_CELLS;
 pub use sizes::sizes_fit;
 use tables::{Entry, Line, Refusal, Register};
 
-// Whether tables whose sizes fit are legal, in one pass over the lines and one over the directory.
+// Whether tables whose sizes fit are legal, in one pass over the lines and one over the directory. The tables come as
+// four parameters, as `audit` is lent them: a struct for this one function would be longer.
 fn is_legal<V: Copy, P: Copy>(
     lines: &[Line<V, P>],
     directory: &[Entry],

@@ -27,6 +27,7 @@ pub fn sizes_fit<V: Copy, P: Copy>(
 ) -> bool
     ensures { result ≡ fits ways lines.now directory.now registers.now }
 {
+    // Each bound is known for the product below once its test has passed.
     let parties = registers.len();
     if !within(parties, MOST_PARTIES) {
         return false;
