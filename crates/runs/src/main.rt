@@ -10,17 +10,18 @@ use calls::{CELLS, PARTIES, WAYS, contended};
 use history::{Played, Unplayed, run};
 use memory::{Combining, Home, PlainCells};
 use model::{Answer, Call};
+use notation::Shown;
 use operation::{Count, Delta, Flags, Operation, Pair, Peak, Total};
-use protocol::abandon;
-use shown::{Shown, answer_text};
+use protocol::{Bench, abandon};
+use shown::answer_text;
 use std::process::ExitCode;
 use tables::Ledger;
 use victim::{Oldest, Rotate, Victim};
 use workbench::{Workbench, row_of};
 
 fn print_answers<O: Shown>(rt: &HostRuntime, answers: &[Answer<O::Value>]) -> anyhow::Result<()> {
-    for i in 0..answers.len() {
-        let text = answer_text::<O>(answers[i], rt.alloc())?;
+    for (i, answer) in answers.iter().enumerate() {
+        let text = answer_text::<O>(*answer, rt.alloc())?;
         println!(rt; "{i} {text}")?;
     }
     Ok(())
@@ -44,7 +45,7 @@ fn print_tally(rt: &HostRuntime, ledger: &Ledger) -> anyhow::Result<()> {
 fn print_cells<O: Shown, H: Home<O>>(rt: &HostRuntime, home: &mut H) -> anyhow::Result<()> {
     for cell in 0..home.cells() {
         if let Ok(value) = home.load(cell) {
-            let text = O::text(value, rt.alloc())?;
+            let text = O::show(value, rt.alloc())?;
             println!(rt; "cell {cell} {text}")?;
         }
     }
@@ -60,27 +61,30 @@ fn play<O: Shown, H: Home<O> + Drop, R: Victim + Drop>(
     calls: &[Call<O::Value, O::Partial>],
 ) -> anyhow::Result<()> {
     println!(rt; "{title}")?;
-    let mut bench = Workbench::<O::Value, O::Partial>::new(PARTIES, WAYS, CELLS, rt.alloc())?;
-    let played = run::<O, H, R>(
-        bench.lines.as_mut_slice(),
-        bench.directory.as_mut_slice(),
-        bench.registers.as_mut_slice(),
-        &mut bench.ledger,
+    let Workbench {
+        mut lines,
+        mut directory,
+        mut registers,
+        mut ledger,
+    } = Workbench::<O::Value, O::Partial>::new(PARTIES, WAYS, CELLS, rt.alloc())?;
+    let mut bench = Bench::<O, H, R>::over(
+        lines.as_mut_slice(),
+        directory.as_mut_slice(),
+        registers.as_mut_slice(),
+        &mut ledger,
         &mut rule,
         &mut home,
-        WAYS as usize,
-        calls,
-        rt.alloc(),
+        usize::from(WAYS),
     );
-    match played {
+    match run(&mut bench, calls, rt.alloc()) {
         Ok(Played { answers, ticket }) => {
             if let Some(ticket) = ticket {
-                let left = abandon(ticket, bench.lines.as_slice(), &mut bench.ledger);
+                let left = abandon(ticket, &mut bench);
                 println!(rt; "left {left}")?;
             }
             print_answers::<O>(rt, answers.as_slice())?;
-            print_tally(rt, &bench.ledger)?;
-            print_cells::<O, H>(rt, &mut home)
+            print_tally(rt, bench.ledger)?;
+            print_cells::<O, H>(rt, bench.home)
         }
         Err(Unplayed::Refused(refusal)) => {
             let number = refusal.number();
@@ -94,7 +98,7 @@ fn play<O: Shown, H: Home<O> + Drop, R: Victim + Drop>(
 fn play_all(rt: &HostRuntime) -> anyhow::Result<()> {
     let heap = rt.alloc();
     let totals = contended::<Total>(Delta::new(5), Delta::new(-7), Count::new(100));
-    let cells = row_of(Count::new(10), CELLS as usize, heap)?;
+    let cells = row_of(Count::new(10), usize::from(CELLS), heap)?;
     play::<Total, PlainCells<Total>, Rotate>(
         rt,
         "total, rotate, plain cells",
@@ -102,7 +106,7 @@ fn play_all(rt: &HostRuntime) -> anyhow::Result<()> {
         Rotate::new(),
         &totals,
     )?;
-    let cells = row_of(Count::new(10), CELLS as usize, heap)?;
+    let cells = row_of(Count::new(10), usize::from(CELLS), heap)?;
     play::<Total, PlainCells<Total>, Oldest>(
         rt,
         "total, oldest, plain cells",
@@ -110,7 +114,7 @@ fn play_all(rt: &HostRuntime) -> anyhow::Result<()> {
         Oldest::new(),
         &totals,
     )?;
-    let cells = row_of(Count::new(10), CELLS as usize, heap)?;
+    let cells = row_of(Count::new(10), usize::from(CELLS), heap)?;
     play::<Total, Combining<Total, PlainCells<Total>>, Oldest>(
         rt,
         "total, oldest, a combining register over plain cells",
@@ -119,7 +123,7 @@ fn play_all(rt: &HostRuntime) -> anyhow::Result<()> {
         &totals,
     )?;
     let pairs = contended::<Pair<Peak, Flags>>((3, 1), (9, 6), (5, 8));
-    let cells = row_of((4, 0), CELLS as usize, heap)?;
+    let cells = row_of((4, 0), usize::from(CELLS), heap)?;
     play::<Pair<Peak, Flags>, PlainCells<Pair<Peak, Flags>>, Rotate>(
         rt,
         "peak and flags as a pair, rotate, plain cells",

@@ -1,39 +1,7 @@
-// How values and answers are printed.
+// How answers are printed.
 use model::Answer;
-use notation::Notation;
-use operation::{Count, Flags, Operation, Pair, Peak, Total};
+use notation::Shown;
 use std::alloc::{AllocError, Global};
-
-// An operation whose values have a text, a pair's being those of its two parts.
-pub trait Shown: Operation {
-    fn text(value: Self::Value, heap: Global) -> Result<String, AllocError>;
-}
-
-impl Shown for Total {
-    fn text(value: Count, heap: Global) -> Result<String, AllocError> {
-        Total::show(value, heap)
-    }
-}
-
-impl Shown for Peak {
-    fn text(value: u64, heap: Global) -> Result<String, AllocError> {
-        Peak::show(value, heap)
-    }
-}
-
-impl Shown for Flags {
-    fn text(value: u16, heap: Global) -> Result<String, AllocError> {
-        Flags::show(value, heap)
-    }
-}
-
-impl<A: Shown, B: Shown> Shown for Pair<A, B> {
-    fn text(value: (A::Value, B::Value), heap: Global) -> Result<String, AllocError> {
-        let first = A::text(value.0, heap)?;
-        let second = B::text(value.1, heap)?;
-        format!(in heap; "{first} {second}")
-    }
-}
 
 pub fn answer_text<O: Shown>(answer: Answer<O::Value>, heap: Global) -> Result<String, AllocError> {
     match answer {
@@ -48,7 +16,7 @@ pub fn answer_text<O: Shown>(answer: Answer<O::Value>, heap: Global) -> Result<S
         Answer::Evict(way) => format!(in heap; "evict {way}"),
         Answer::Grant(party) => format!(in heap; "grant {party}"),
         Answer::Collected(Some(value)) => {
-            let value = O::text(value, heap)?;
+            let value = O::show(value, heap)?;
             format!(in heap; "value {value}")
         }
         Answer::Collected(None) => format!(in heap; "done"),

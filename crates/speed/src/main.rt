@@ -16,25 +16,8 @@ use tables::Ledger;
 
 const FEW: usize = 3000;
 
-fn same_cells(a: &[Count], b: &[Count]) -> bool {
-    if a.len() != b.len() {
-        return false;
-    }
-    for i in 0..a.len() {
-        if a[i].get() != b[i].get() {
-            return false;
-        }
-    }
-    true
-}
-
 fn same_end(a: &End, b: &End) -> bool {
-    a.ledger.hits == b.ledger.hits
-        && a.ledger.grants == b.ledger.grants
-        && a.ledger.recalls == b.ledger.recalls
-        && a.ledger.evictions == b.ledger.evictions
-        && a.ledger.yields == b.ledger.yields
-        && same_cells(a.cells.as_slice(), b.cells.as_slice())
+    a.ledger == b.ledger && a.cells.as_slice() == b.cells.as_slice()
 }
 
 fn print_ends(rt: &HostRuntime, calls: usize, a: &End, b: &End) -> anyhow::Result<()> {

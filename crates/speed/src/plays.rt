@@ -5,7 +5,9 @@ use history::{Played, Unplayed, run};
 use memory::PlainCells;
 use model::Call;
 use operation::{Count, Delta, Total};
-use protocol::{Ticket, Unsettled, abandon, advance, collect, make, post, relinquish, settle};
+use protocol::{
+    Bench, Ticket, Unsettled, abandon, advance, collect, make, post, relinquish, settle,
+};
 use std::alloc::{AllocError, Global};
 use tables::{Ledger, Refusal};
 use victim::Oldest;
@@ -19,36 +21,24 @@ pub struct End {
 }
 
 fn home(heap: Global) -> Result<PlainCells<Total>, AllocError> {
-    Ok(PlainCells::new(row_of(Count::new(0), CELLS as usize, heap)?))
+    Ok(PlainCells::new(row_of(Count::new(0), usize::from(CELLS), heap)?))
 }
 
-fn refused(refusal: Refusal) -> anyhow::Result<End> {
+fn refused(refusal: Refusal) -> anyhow::Result<()> {
     bail!("the make is refused with {}", refusal.number())
 }
 
-pub fn as_one_run(calls: &[Call<Count, Delta>], heap: Global) -> anyhow::Result<End> {
-    let mut home = home(heap)?;
-    let mut rule = Oldest::new();
-    let mut bench = Workbench::<Count, Delta>::new(PARTIES, WAYS, CELLS, heap)?;
-    match run::<Total, PlainCells<Total>, Oldest>(
-        bench.lines.as_mut_slice(),
-        bench.directory.as_mut_slice(),
-        bench.registers.as_mut_slice(),
-        &mut bench.ledger,
-        &mut rule,
-        &mut home,
-        WAYS as usize,
-        calls,
-        heap,
-    ) {
+fn one_run(
+    bench: &mut Bench<'_, Total, PlainCells<Total>, Oldest>,
+    calls: &[Call<Count, Delta>],
+    heap: Global,
+) -> anyhow::Result<()> {
+    match run(bench, calls, heap) {
         Ok(Played { answers: _, ticket }) => {
             if let Some(ticket) = ticket {
-                let _left = abandon(ticket, bench.lines.as_slice(), &mut bench.ledger);
+                let _left = abandon(ticket, bench);
             }
-            Ok(End {
-                ledger: bench.ledger,
-                cells: home.into_row(),
-            })
+            Ok(())
         }
         Err(Unplayed::Refused(refusal)) => refused(refusal),
         Err(Unplayed::OutOfMemory) => bail!("no memory for the answers"),
@@ -57,81 +47,84 @@ pub fn as_one_run(calls: &[Call<Count, Delta>], heap: Global) -> anyhow::Result<
 
 // One public call; the ticket is kept unless a settle is accepted.
 fn call_once(
-    bench: &mut Workbench<Count, Delta>,
-    rule: &mut Oldest,
-    home: &mut PlainCells<Total>,
+    bench: &mut Bench<'_, Total, PlainCells<Total>, Oldest>,
     ticket: Option<Ticket>,
     call: Call<Count, Delta>,
 ) -> Option<Ticket> {
-    let ways = WAYS as usize;
-    let lines = bench.lines.as_mut_slice();
-    let directory = bench.directory.as_mut_slice();
-    let registers = bench.registers.as_mut_slice();
-    let ledger = &mut bench.ledger;
     match call {
         Call::Post { party, request } => {
-            let _ = post::<Total, PlainCells<Total>, Oldest>(
-                lines, directory, registers, ledger, rule, home, ways, party, request,
-            );
+            let _ = post(bench, party, request);
             ticket
         }
         Call::Advance { cell } => {
-            let _ = advance::<Total, PlainCells<Total>, Oldest>(
-                lines, directory, registers, ledger, rule, home, ways, cell,
-            );
+            let _ = advance(bench, cell);
             ticket
         }
         Call::Collect { party } => {
-            let _ = collect::<Total, PlainCells<Total>, Oldest>(
-                lines, directory, registers, ledger, rule, home, ways, party,
-            );
+            let _ = collect(bench, party);
             ticket
         }
         Call::Yield { party, cell } => {
-            let _ = relinquish::<Total, PlainCells<Total>, Oldest>(
-                lines, directory, registers, ledger, rule, home, ways, party, cell,
-            );
+            let _ = relinquish(bench, party, cell);
             ticket
         }
-        Call::Settle => {
-            let Some(ticket) = ticket else {
-                return None;
-            };
-            match settle::<Total, PlainCells<Total>, Oldest>(
-                ticket, lines, directory, registers, ledger, rule, home, ways,
-            ) {
-                Ok(()) => None,
-                Err(Unsettled { refusal: _, ticket }) => Some(ticket),
-            }
-        }
+        Call::Settle => match settle(ticket?, bench) {
+            Ok(()) => None,
+            Err(Unsettled { refusal: _, ticket }) => Some(ticket),
+        },
     }
 }
 
-pub fn call_by_call(calls: &[Call<Count, Delta>], heap: Global) -> anyhow::Result<End> {
-    let mut home = home(heap)?;
-    let mut rule = Oldest::new();
-    let mut bench = Workbench::<Count, Delta>::new(PARTIES, WAYS, CELLS, heap)?;
-    let made = make::<Total, PlainCells<Total>, Oldest>(
-        bench.lines.as_mut_slice(),
-        bench.directory.as_mut_slice(),
-        bench.registers.as_mut_slice(),
-        &mut bench.ledger,
-        &rule,
-        &home,
-        WAYS as usize,
-    );
-    let mut kept = match made {
+fn one_by_one(
+    bench: &mut Bench<'_, Total, PlainCells<Total>, Oldest>,
+    calls: &[Call<Count, Delta>],
+) -> anyhow::Result<()> {
+    let mut kept = match make(bench) {
         Ok(ticket) => Some(ticket),
         Err(refusal) => return refused(refusal),
     };
     for call in calls {
-        kept = call_once(&mut bench, &mut rule, &mut home, kept, *call);
+        kept = call_once(bench, kept, *call);
     }
     if let Some(ticket) = kept {
-        let _left = abandon(ticket, bench.lines.as_slice(), &mut bench.ledger);
+        let _left = abandon(ticket, bench);
     }
+    Ok(())
+}
+
+// What a play of the calls on a new bench comes to.
+fn end_of<F: FnOnce(&mut Bench<'_, Total, PlainCells<Total>, Oldest>) -> anyhow::Result<()>>(
+    play: F,
+    heap: Global,
+) -> anyhow::Result<End> {
+    let Workbench {
+        mut lines,
+        mut directory,
+        mut registers,
+        mut ledger,
+    } = Workbench::<Count, Delta>::new(PARTIES, WAYS, CELLS, heap)?;
+    let mut rule = Oldest::new();
+    let mut home = home(heap)?;
+    let mut bench = Bench::<Total, PlainCells<Total>, Oldest>::over(
+        lines.as_mut_slice(),
+        directory.as_mut_slice(),
+        registers.as_mut_slice(),
+        &mut ledger,
+        &mut rule,
+        &mut home,
+        usize::from(WAYS),
+    );
+    play(&mut bench)?;
     Ok(End {
-        ledger: bench.ledger,
+        ledger,
         cells: home.into_row(),
     })
+}
+
+pub fn as_one_run(calls: &[Call<Count, Delta>], heap: Global) -> anyhow::Result<End> {
+    end_of(|bench| one_run(bench, calls, heap), heap)
+}
+
+pub fn call_by_call(calls: &[Call<Count, Delta>], heap: Global) -> anyhow::Result<End> {
+    end_of(|bench| one_by_one(bench, calls), heap)
 }

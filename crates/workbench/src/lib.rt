@@ -3,9 +3,8 @@
 
 ghost use Rattle.std.specs.Prelude.{◌≡◌, ◌*◌, length, replicate, IfOk};
 
-use party_set::PartySet;
 use std::alloc::{AllocError, Global};
-use tables::{Entry, Ledger, Line, Phase, Register, Status};
+use tables::{Entry, Ledger, Line, Register, Status};
 
 // The tables and the ledger, still to be made: the ledger is closed.
 #[derive(Drop)]
@@ -20,6 +19,7 @@ pub struct Workbench<V, P> {
 pub fn row_of<T: Copy>(value: T, count: usize, heap: Global) -> Result<Vec<T>, AllocError>
     ensures { IfOk result (λ v. v.items ≡ replicate count value) }
 {
+    // `vec!` promises this of clones that are known to be equal, and a copy says nothing of its clone.
     let mut row = Vec::new(heap);
     row.resize(count, value)?;
     Ok(row)
@@ -35,24 +35,11 @@ impl<V: Copy, P: Copy> Workbench<V, P> {
     ) -> Result<Workbench<V, P>, AllocError>
         ensures { IfOk result (λ b. (length b.lines.items ≡ parties * ways) × (length b.directory.items ≡ cells) × (length b.registers.items ≡ parties)) }
     {
-        let unused = Entry {
-            phase: Phase::Free,
-            holders: PartySet::none(),
-            turn: None,
-            last: 0,
-        };
         Ok(Workbench {
-            lines: row_of(Line::Invalid, parties as usize * ways as usize, heap)?,
-            directory: row_of(unused, cells as usize, heap)?,
-            registers: row_of(Register::Empty, parties as usize, heap)?,
-            ledger: Ledger {
-                status: Status::Closed,
-                hits: 0,
-                grants: 0,
-                recalls: 0,
-                evictions: 0,
-                yields: 0,
-            },
+            lines: row_of(Line::Invalid, usize::from(parties) * usize::from(ways), heap)?,
+            directory: row_of(Entry::free(0), usize::from(cells), heap)?,
+            registers: row_of(Register::Empty, usize::from(parties), heap)?,
+            ledger: Ledger::new(Status::Closed),
         })
     }
 }
