@@ -56,7 +56,8 @@ impl From<Wrong> for Cause {
     }
 }
 
-// Lines are counted from 1, places in bytes from 0 in the line.
+// Lines are counted from 1, places in bytes from 0 in the line. A type of its own beside `FieldFault`, since each layer's
+// faults go into the next one's by `?`.
 #[derive(Clone, Copy, PartialEq, Eq, Debug)]
 pub struct LineFault {
     pub line: usize,

@@ -42,6 +42,7 @@ impl Scripted for Total {
     }
 }
 
+// Peak and Flags share one call each; a refusal by `TryFrom`, generic in the number, would know no place in the line.
 impl Scripted for Peak {
     ghost values = { naturals (2 ^ 64 - 1) };
 

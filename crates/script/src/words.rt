@@ -5,7 +5,8 @@ ghost use Rattle.script.specs.Words.{opening_of, ranking_of, verb_of, wish_of};
 
 use notation::Kind;
 
-// What one of several words may stand for.
+// What one of several words may stand for. Not `TryFrom`, which says what comes as a relation: `meant` is a function, and
+// a line's clauses compute with it.
 pub trait Vocabulary {
     ghost meant: { List ℕ → Option Self };
 
