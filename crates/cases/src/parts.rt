@@ -1,14 +1,13 @@
 // Cases of an operation, of a home and of the limits, each without a play.
 ghost use Rattle.std.specs.Prelude.{◌≡◌, ◌≤◌};
-ghost use Rattle.memory.specs.Row.{counted};
+ghost use Rattle.cases.specs.Benches.{cells_of};
 ghost use Rattle.cases.specs.Replies.{done_or, made_of, value_or};
 
-use super::bench::{no_entry, no_ledger};
 use super::texts::Reply;
 use memory::{Combining, Home, PlainCells};
 use operation::{Count, Delta, Operation, Total};
-use protocol::{abandon, make};
-use tables::{Entry, Line, Register};
+use protocol::{Bench, abandon, make};
+use tables::{Entry, Ledger, Line, Register, Status};
 use victim::Rotate;
 
 // A step down below 0 wraps.
@@ -63,15 +62,15 @@ fn show_make(rt: &HostRuntime, parties: usize, cells: usize) -> anyhow::Result<(
     requires { (parties ≤ 17) × (cells ≤ 257) }
 {
     let row = vec![in rt.alloc(); Count::new(0); 257]?;
-    let home = PlainCells::<Total>::new(row);
+    let mut home = PlainCells::<Total>::new(row);
     let mut lines = [Line::<Count, Delta>::Invalid; 17];
-    let mut directory = [no_entry(); 257];
+    let mut directory = [Entry::free(0); 257];
     let mut registers = [Register::<Count, Delta>::Empty; 17];
     let reply = make_and_abandon(
         &mut lines[0..parties],
         &mut directory[0..cells],
         &mut registers[0..parties],
-        &home,
+        &mut home,
     );
     println!(rt; "make of {parties} parties and {cells} cells: {reply}")?;
     Ok(())
@@ -82,21 +81,24 @@ fn make_and_abandon(
     lines: &mut [Line<Count, Delta>],
     directory: &mut [Entry],
     registers: &mut [Register<Count, Delta>],
-    home: &PlainCells<Total>,
-) -> Reply {
-    let mut ledger = no_ledger();
-    let rule = Rotate::new();
-    match make::<Total, PlainCells<Total>, Rotate>(
+    home: &mut PlainCells<Total>,
+) -> Reply
+    ensures { result ≡ made_of lines.old directory.old registers.old (cells_of home.old) }
+{
+    let mut ledger = Ledger::new(Status::Closed);
+    let mut rule = Rotate::new();
+    let mut bench = Bench::<Total, PlainCells<Total>, Rotate>::over(
         lines,
         directory,
         registers,
         &mut ledger,
-        &rule,
+        &mut rule,
         home,
         1,
-    ) {
+    );
+    match make(&mut bench) {
         Ok(ticket) => {
-            let _ = abandon(ticket, lines, &mut ledger);
+            let _ = abandon(ticket, &mut bench);
             Reply::Done
         }
         Err(refusal) => Reply::Refused(refusal.number()),

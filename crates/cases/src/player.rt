@@ -1,11 +1,14 @@
 // Plays cases, and prints a line for each step.
-use super::bench::Bench;
+use super::bench::answer;
 use super::cases::{
     Step, a_hit, a_late_update, a_read, a_yield, an_eviction, one_update, two_updates,
 };
 use super::texts::{Held, Reply, Said};
 use memory::{Home, PlainCells};
 use operation::{Count, Total};
+use protocol::{Bench, abandon, make};
+use tables::{Entry, Ledger, Line, Register, Status};
+use victim::Rotate;
 
 pub fn play_all(rt: &HostRuntime) -> anyhow::Result<()> {
     let heap = rt.alloc();
@@ -18,12 +21,25 @@ pub fn play_all(rt: &HostRuntime) -> anyhow::Result<()> {
     play(rt, "a yield", a_yield(heap)?.as_slice())
 }
 
-// A case on a new bench, whose home holds 10 and 20.
+// A case on a new bench: two parties with one way each, and two cells, which hold 10 and 20.
 fn play(rt: &HostRuntime, heading: &str, steps: &[Step]) -> anyhow::Result<()> {
-    let row = vec![in rt.alloc(); Count::new(10), Count::new(20)]?;
-    let mut bench = Bench::over(PlainCells::<Total>::new(row));
+    let mut home = PlainCells::<Total>::new(vec![in rt.alloc(); Count::new(10), Count::new(20)]?);
+    let mut rule = Rotate::new();
+    let mut lines = [Line::Invalid; 2];
+    let mut directory = [Entry::free(0); 2];
+    let mut registers = [Register::Empty; 2];
+    let mut ledger = Ledger::new(Status::Closed);
+    let mut bench = Bench::<Total, PlainCells<Total>, Rotate>::over(
+        &mut lines,
+        &mut directory,
+        &mut registers,
+        &mut ledger,
+        &mut rule,
+        &mut home,
+        1,
+    );
     println!(rt; "{heading}")?;
-    match bench.make() {
+    match make(&mut bench) {
         Err(refusal) => {
             let reply = Reply::Refused(refusal.number());
             println!(rt; "make: {reply}")?;
@@ -31,7 +47,7 @@ fn play(rt: &HostRuntime, heading: &str, steps: &[Step]) -> anyhow::Result<()> {
         Ok(ticket) => {
             // Whatever becomes of the printing, the ticket is to be given up first.
             let printed = take_steps(rt, &mut bench, steps);
-            let left = bench.abandon(ticket);
+            let left = abandon(ticket, &mut bench);
             printed?;
             println!(rt; "abandon: left {left}")?;
         }
@@ -39,7 +55,11 @@ fn play(rt: &HostRuntime, heading: &str, steps: &[Step]) -> anyhow::Result<()> {
     Ok(())
 }
 
-fn take_steps(rt: &HostRuntime, bench: &mut Bench, steps: &[Step]) -> anyhow::Result<()> {
+fn take_steps(
+    rt: &HostRuntime,
+    bench: &mut Bench<'_, Total, PlainCells<Total>, Rotate>,
+    steps: &[Step],
+) -> anyhow::Result<()> {
     let reply = Reply::Done;
     println!(rt; "make: {reply}")?;
     for step in steps {
@@ -48,22 +68,26 @@ fn take_steps(rt: &HostRuntime, bench: &mut Bench, steps: &[Step]) -> anyhow::Re
     Ok(())
 }
 
-fn take_step(rt: &HostRuntime, bench: &mut Bench, step: Step) -> anyhow::Result<()> {
+fn take_step(
+    rt: &HostRuntime,
+    bench: &mut Bench<'_, Total, PlainCells<Total>, Rotate>,
+    step: Step,
+) -> anyhow::Result<()> {
     match step {
         Step::Call(call) => {
-            let answer = Said(bench.answer(call));
+            let answer = Said(answer(bench, call));
             println!(rt; "{call}: {answer}")?;
         }
-        Step::Home => show_home(rt, bench)?,
+        Step::Home => show_home(rt, bench.home)?,
         Step::Lines => show_lines(rt, bench)?,
     }
     Ok(())
 }
 
-fn show_home(rt: &HostRuntime, bench: &mut Bench) -> anyhow::Result<()> {
+fn show_home(rt: &HostRuntime, home: &mut PlainCells<Total>) -> anyhow::Result<()> {
     print!(rt; "home:")?;
-    for place in 0..bench.home.cells() {
-        if let Ok(value) = bench.home.load(place) {
+    for place in 0..home.cells() {
+        if let Ok(value) = home.load(place) {
             let value = value.get();
             print!(rt; " {value}")?;
         }
@@ -73,7 +97,10 @@ fn show_home(rt: &HostRuntime, bench: &mut Bench) -> anyhow::Result<()> {
 }
 
 // A party has one way, so line p is that of party p.
-fn show_lines(rt: &HostRuntime, bench: &Bench) -> anyhow::Result<()> {
+fn show_lines(
+    rt: &HostRuntime,
+    bench: &Bench<'_, Total, PlainCells<Total>, Rotate>,
+) -> anyhow::Result<()> {
     for (party, line) in bench.lines.iter().enumerate() {
         let held = Held(*line);
         println!(rt; "line of {party}: {held}")?;

@@ -20,7 +20,7 @@ use Rattle.operation.specs.declared.count.Count.{Count}
 use Rattle.operation.specs.declared.delta.Delta.{Delta}
 use Rattle.memory.specs.Homes.{loaded, placed}
 use Rattle.memory.specs.Register.{acting}
-use Rattle.memory.specs.declared.combining.Held.TheVariants.{Nothing, At}
+use Rattle.memory.specs.declared.combining.Pending.{Pending}
 use Rattle.victim.specs.Aging.{aging}
 use Rattle.victim.specs.Orders.{numbered}
 use Rattle.victim.specs.Rotating.{rotating}
@@ -109,12 +109,15 @@ module _ {R : Type 0} (rule : Rule R) (u : R) where
 abbrev pub Moved : Type 0
 Moved = totals.act (count 3) (stepped (neg_ℤ (pos 5))) ≡ count 4294967294
 
+abbrev held : ℕ → Delta → Pending Delta
+held place step = record { place = place; partial = step }
+
 -- by the register's meaning: an apply may be held back, and what a store leaves has nothing held at its place
 pub record Forgotten : Type 0 where
-  pub over : acting totals (count 10 ∷ []) Nothing ≡ count 10 ∷ []
-  pub apply : (placed (acting totals (count 10 ∷ []) Nothing) 0 ≡ Ok tt) × (applied totals (acting totals (count 10 ∷ []) Nothing) 0 (delta 5) ≡ acting totals (count 10 ∷ []) (At 0 (delta 5)))
-  pub store : (placed (acting totals (count 10 ∷ []) (At 0 (delta 5))) 0 ≡ Ok tt) × (slice_set (acting totals (count 10 ∷ []) (At 0 (delta 5))) 0 (count 9) ≡ acting totals (count 9 ∷ []) Nothing)
-  pub load : loaded (acting totals (count 9 ∷ []) Nothing) 0 ≡ Ok (count 9)
+  pub over : acting totals (count 10 ∷ []) None ≡ count 10 ∷ []
+  pub apply : (placed (acting totals (count 10 ∷ []) None) 0 ≡ Ok tt) × (applied totals (acting totals (count 10 ∷ []) None) 0 (delta 5) ≡ acting totals (count 10 ∷ []) (Some (held 0 (delta 5))))
+  pub store : (placed (acting totals (count 10 ∷ []) (Some (held 0 (delta 5)))) 0 ≡ Ok tt) × (slice_set (acting totals (count 10 ∷ []) (Some (held 0 (delta 5)))) 0 (count 9) ≡ acting totals (count 9 ∷ []) None)
+  pub load : loaded (acting totals (count 9 ∷ []) None) 0 ≡ Ok (count 9)
 
 -- one way each, and a home with room for the cells
 abbrev pub refusal : ℕ → ℕ → Option ℕ

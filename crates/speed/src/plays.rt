@@ -96,7 +96,9 @@ fn one_by_one(
 fn end_of<F: FnOnce(&mut Bench<'_, Total, PlainCells<Total>, Oldest>) -> anyhow::Result<()>>(
     play: F,
     heap: Global,
-) -> anyhow::Result<End> {
+) -> anyhow::Result<End>
+    requires { F.IsAlwaysCallable play }
+{
     let Workbench {
         mut lines,
         mut directory,
