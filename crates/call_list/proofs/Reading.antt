@@ -5,14 +5,14 @@ use Rattle.std.specs.declared.str.Lines.{Lines}
 use Rattle.std.specs.Str.Lines.{IsFirstLine}
 use Rattle.std.specs.Iterator.Adapters.{enumerate_source, enumerate_count, enumerate_steps}
 use Rattle.std.specs.Str.Iter.{lines_rest, lines_steps}
-use Rattle.std.proofs.lemmas.List.{length_push, nil_from_length}
+use Rattle.std.proofs.lemmas.List.{length_push}
 use Rattle.std.proofs.lemmas.Bool.{cases_lt}
 use Rattle.layering.specs.declared.Call.{Call}
 use Rattle.call_list.specs.declared.faults.Fault.{Fault}
 use Rattle.notation.specs.declared.Misread.{Misread}
 use Rattle.call_list.specs.declared.faults.Stop.TheVariants.{Input}
 use Rattle.call_list.specs.Fields.{Begins}
-use Rattle.call_list.specs.Script.{CallLine, CallLines, Calls, Blamed}
+use Rattle.call_list.specs.Script.{CallLine, CallLines, Blamed}
 
 begins_more : (bs : List ℕ) (ls : List (List ℕ)) (rest line more : List ℕ) → Begins bs ls rest → 0 < length rest → IsFirstLine rest line more → Begins bs (ls ++ line ∷ []) more
 begins_more bs [] rest line more e some cut = (more, subst (λ l. 0 < length l) (sym e) some, subst (λ l. IsFirstLine l line more) (sym e) cut, refl)
@@ -75,6 +75,3 @@ module _ {V P : Type 0} (value : List ℕ → Result V Misread → Type 0) (part
     -- a line more, which has a fault
     pub one_fault : (f : Fault) → f.line ≡ count + 1 → Blamed text (Input f)
     one_fault f at = (old.seen ++ line ∷ [], more, begins_more text old.seen rest line more old.begins some cut, length_push old.seen line ∙ ap (λ n. n + 1) old.counted ∙ sym at)
-
-  pub no_more : {text rest : List ℕ} {count : ℕ} {calls : List (Call V P)} → Sofar text rest count calls → length rest ≡ 0 → Calls value partial text calls
-  no_more {text} {rest} old none = (old.seen, subst (Begins text old.seen) (nil_from_length rest none) old.begins, old.said)

@@ -49,6 +49,7 @@ fn answer_text<O: Shown>(answer: Answer<O::Value>, heap: Global) -> Result<Strin
 }
 
 // The cells that are not 0, a line for each.
+// One loop over a closure for these and the answers would be no plainer: its contract needs a definition of what the closure may write.
 pub fn cell_lines<O: Shown>(values: &[O::Value], heap: Global) -> Result<String, AllocError>
     ensures { IfOk result (λ s. string_bytes s ≡ cell_lines O.Shown.shown values.now) }
 {

@@ -1,5 +1,5 @@
 use Rattle.std.proofs.Common.{◌<◌, length, sym, ap, ◌∙◌, arith}
-use Rattle.std.proofs.lemmas.List.{take_more, take_all}
+use Rattle.std.proofs.lemmas.List.{take_more}
 use Rattle.memory.specs.Homes.{loaded}
 use Rattle.memory.proofs.Places.{outside_from_loaded, value_from_loaded}
 use Rattle.piles.proofs.values.Goals as goal
@@ -20,8 +20,3 @@ loop-place-preserved g c =
     let here = value_from_loaded vs i c.in-Ok.value c.in-Ok.value read in
     let front = take_more vs i c.in-Ok.value h in
     (cc, cc, omega arith, omega arith)
-
-pub returns : goal.returns
-returns g c =
-    let vs = g.H.Home.meaning c.args.home.now in
-    record { value = c.loop-place.invariant.1 ∙ take_all c.loop-place.place vs (omega arith); after = c.loop-place.invariant.0 }

@@ -1,7 +1,7 @@
 use Rattle.std.proofs.Common.{◌+◌, ap, ◌∙◌, inl}
 use Rattle.std.specs.Str.Iter.{lines_rest}
 use Rattle.std.proofs.lemmas.Result.{err_from_is_err_and}
-use Rattle.call_list.proofs.Reading.{headed_by, one_more, one_fault, no_more}
+use Rattle.call_list.proofs.Reading.{headed_by, one_more, one_fault}
 use Rattle.call_list.proofs.script.read_calls.Goals as goal
 
 pub loop-index-init : goal.loop-index-init
@@ -23,6 +23,3 @@ loop-index-preserved g c =
       tt,
       one_more _ _ c.loop-index.invariant.2 _ _ step.0.0.0 step.0.0.2 _ _ _ c.in_ok-numbered.ensures step.2 c.in_ok-push.ensures.items,
     )
-
-pub returns : goal.returns
-returns g c = no_more _ _ c.loop-index.invariant.2 c.in-None.ensures.steps.0.0.0
