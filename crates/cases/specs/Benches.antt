@@ -17,5 +17,5 @@ asked (Advance a) = model-call.Advance a
 asked (Collect p) = model-call.Collect p
 asked (Yield p a) = model-call.Yield p a
 
-abbrev pub cells_of : {O V : Type 0} → PlainCells O V → List V
+abbrev pub cells_of : {O V P : Type 0} → PlainCells O V P → List V
 cells_of h = counted (vec_items h.row)

@@ -3,12 +3,13 @@ use super::bench::answer;
 use super::cases::{
     Step, a_hit, a_late_update, a_read, a_yield, an_eviction, one_update, two_updates,
 };
-use super::texts::{Held, Reply, Said};
+use super::texts::{Held, Reply};
 use memory::{Home, PlainCells};
 use operation::{Count, Total};
 use protocol::{Bench, abandon, make};
 use tables::{Entry, Ledger, Line, Register, Status};
 use victim::Rotate;
+use wording::answer_text;
 
 pub fn play_all(rt: &HostRuntime) -> anyhow::Result<()> {
     let heap = rt.alloc();
@@ -75,8 +76,8 @@ fn take_step(
 ) -> anyhow::Result<()> {
     match step {
         Step::Call(call) => {
-            let answer = Said(answer(bench, call));
-            println!(rt; "{call}: {answer}")?;
+            let text = answer_text::<Total>(answer(bench, call), rt.alloc())?;
+            println!(rt; "{call}: {text}")?;
         }
         Step::Home => show_home(rt, bench.home)?,
         Step::Lines => show_lines(rt, bench)?,

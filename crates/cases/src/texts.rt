@@ -1,6 +1,5 @@
-// Calls, answers and lines as text: what is printed of a case.
+// Calls and lines as text: what is printed of a case.
 use super::bench::Call;
-use model::Answer;
 use operation::{Count, Delta};
 use std::fmt;
 use tables::{Line, Request};
@@ -35,36 +34,6 @@ impl fmt::Display for Asked {
                 let by = partial.get();
                 write!(f, "update {cell} by {by}")
             }
-        }
-    }
-}
-
-// An answer, to be printed.
-#[derive(Drop)]
-pub struct Said(pub Answer<Count>);
-
-impl fmt::Display for Said {
-    fn fmt<W: fmt::Write>(&self, f: &mut fmt::Formatter<W>) -> fmt::Result {
-        match &self.0 {
-            Answer::Refused(refusal) => {
-                let reply = Reply::Refused(refusal.number());
-                write!(f, "{reply}")
-            }
-            Answer::Hit => f.write_str("hit"),
-            Answer::Queued => f.write_str("queued"),
-            Answer::Idle => f.write_str("idle"),
-            Answer::Recall(party) => write!(f, "recall {party}"),
-            Answer::Evict(way) => write!(f, "evict {way}"),
-            Answer::Grant(party) => write!(f, "grant {party}"),
-            Answer::Collected(value) => {
-                let reply = match *value {
-                    Some(value) => Reply::Value(value.get()),
-                    None => Reply::Done,
-                };
-                write!(f, "{reply}")
-            }
-            Answer::Yielded => f.write_str("yielded"),
-            Answer::Settled => f.write_str("settled"),
         }
     }
 }

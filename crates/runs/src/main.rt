@@ -3,7 +3,6 @@
 #![tactic(auto)]
 
 mod calls;
-mod shown;
 
 use anyhow::bail;
 use calls::{CELLS, PARTIES, WAYS, contended};
@@ -13,10 +12,10 @@ use model::{Answer, Call};
 use notation::Shown;
 use operation::{Count, Delta, Flags, Operation, Pair, Peak, Total};
 use protocol::{Bench, abandon};
-use shown::answer_text;
 use std::process::ExitCode;
 use tables::Ledger;
 use victim::{Oldest, Rotate, Victim};
+use wording::answer_text;
 use workbench::{Workbench, row_of};
 
 fn print_answers<O: Shown>(rt: &HostRuntime, answers: &[Answer<O::Value>]) -> anyhow::Result<()> {

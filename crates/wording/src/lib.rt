@@ -1,9 +1,20 @@
-// How answers are printed.
+// The answers of a bench in words, as programs print them.
+#![tactic(auto)]
+
+ghost use Rattle.std.specs.Prelude.{◌≡◌, IfOk, string_bytes};
+ghost use Rattle.wording.specs.Answers.{said};
+
 use model::Answer;
 use notation::Shown;
 use std::alloc::{AllocError, Global};
 
-pub fn answer_text<O: Shown>(answer: Answer<O::Value>, heap: Global) -> Result<String, AllocError> {
+#[cfg(test)]
+mod tests;
+
+// What is printed of an answer: a refusal by its number, a collect by its value or as done.
+pub fn answer_text<O: Shown>(answer: Answer<O::Value>, heap: Global) -> Result<String, AllocError>
+    ensures { IfOk result (λ s. string_bytes s ≡ said O.Shown.shown answer) }
+{
     match answer {
         Answer::Refused(refusal) => {
             let number = refusal.number();

@@ -1,0 +1,23 @@
+use super::answer_text;
+use model::Answer;
+use operation::Peak;
+use std::test::Fail;
+use tables::Refusal;
+
+#[test]
+fn answers_in_words(rt: HostRuntime) -> Result<(), Fail> {
+    let heap = rt.alloc();
+    assert_eq!(rt;
+        answer_text::<Peak>(Answer::Grant(3), heap)?.as_str(),
+        "grant 3"
+    );
+    assert_eq!(rt;
+        answer_text::<Peak>(Answer::Collected(Some(7)), heap)?.as_str(),
+        "value 7"
+    );
+    assert_eq!(rt;
+        answer_text::<Peak>(Answer::Refused(Refusal::NoLine), heap)?.as_str(),
+        "refused 11"
+    );
+    Ok(())
+}
