@@ -24,6 +24,7 @@ pub(crate) fn new_line<O: Operation, H: Home<O>>(
     match request {
         Request::Read { cell } => match home.load(cell) {
             Ok(value) => Ok(Line::Shared { cell, value }),
+            // Its one refusal is another crate's type, and neither crate knows the other.
             Err(_) => Err(Refusal::Place),
         },
         Request::Write { cell, value } => Ok(Line::Modified { cell, value }),

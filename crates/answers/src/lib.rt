@@ -24,6 +24,9 @@ pub enum Advanced {
     Grant(usize),
 }
 
+// The four functions that follow share the arm of a refusal, and no more: each call has answers of its own, and a
+// generic one would promise a relation where these name the answer.
+
 // What a post returned, as an answer.
 pub fn of_post<V: Copy>(res: Result<Posted, Refusal>) -> Answer<V>
     ensures { result ≡ posted res }

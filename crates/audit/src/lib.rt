@@ -32,6 +32,7 @@ fn is_legal<V: Copy, P: Copy>(
     if !requests_exist(registers, directory.len()) {
         return false;
     }
+    // An array as long as a directory can be: a call has no heap.
     let mut found = [PartySet::none(); MOST_CELLS];
     let admitted = 'lines: {
         for (party, register) in registers.iter().enumerate() {

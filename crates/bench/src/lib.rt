@@ -28,7 +28,7 @@ impl<'a, O: Operation, H: Home<O>, R> Bench<'a, O, H, R> {
     ghost use Rattle.bench.specs.Lent.{seen};
 
     // A bench over tables of any sizes and in any state. What the calls leave is with the lenders once the bench is
-    // let go.
+    // let go. (A function, since the check has no proof of a literal of so many loans.)
     pub fn over(
         lines: &'a mut [Line<O::Value, O::Partial>],
         directory: &'a mut [Entry],

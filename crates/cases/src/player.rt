@@ -87,6 +87,7 @@ fn take_step(
 
 fn show_home(rt: &HostRuntime, home: &mut PlainCells<Total>) -> anyhow::Result<()> {
     print!(rt; "home:")?;
+    // A home is read by place: it has no list to walk.
     for place in 0..home.cells() {
         if let Ok(value) = home.load(place) {
             let value = value.get();

@@ -62,7 +62,7 @@ impl fmt::Display for Held {
     }
 }
 
-// What a make, or a call of a home, comes to.
+// What a make, or a call of a home, comes to: a refusal by its number, whichever of the two types it has.
 #[derive(Clone, Copy)]
 pub enum Reply {
     Done,

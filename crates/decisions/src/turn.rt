@@ -16,6 +16,7 @@ pub fn next_waiting<O: Operation, H, R>(
 {
     let parties = bench.registers.len();
     let mut passed = 0;
+    // A loop that breaks with its party, as the house wants this search to be written.
     'round: loop {
         if passed == parties {
             break None;

@@ -14,6 +14,7 @@ use std::{env, io};
 // Reads one byte more than is taken, so that a longer input shows.
 fn read_some(from: impl Read + Drop, heap: Global) -> io::Result<Vec<u8>> {
     let mut bytes = Vec::new(heap);
+    // `as`, since no `From` widens a `usize`.
     let mut part = from.take(MOST as u64 + 1);
     part.read_to_end(&mut bytes)?;
     Ok(bytes)

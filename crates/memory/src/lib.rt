@@ -17,7 +17,7 @@ pub use plain::PlainCells;
 #[derive(Clone, Copy, PartialEq, Eq, Debug)]
 pub enum Refusal {
     // The place is outside the home's cells.
-    Place,
+    Place = 13,
 }
 
 impl Refusal {
@@ -25,9 +25,7 @@ impl Refusal {
     pub fn number(self) -> u8
         ensures { result ≡ number_of self }
     {
-        match self {
-            Refusal::Place => 13,
-        }
+        self as u8
     }
 }
 

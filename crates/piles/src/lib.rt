@@ -53,6 +53,7 @@ pub fn values<O: Operation, H: Home<O>>(
 {
     let cells = home.cells();
     let mut values = Vec::with_capacity(heap, cells)?;
+    // A home is read by place: it has no list to walk.
     for place in 0..cells {
         let Ok(value) = home.load(place) else {
             unreachable();

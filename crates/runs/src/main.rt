@@ -42,6 +42,7 @@ fn print_tally(rt: &HostRuntime, ledger: &Ledger) -> anyhow::Result<()> {
 }
 
 fn print_cells<O: Shown, H: Home<O>>(rt: &HostRuntime, home: &mut H) -> anyhow::Result<()> {
+    // A home is read by place: it has no list to walk.
     for cell in 0..home.cells() {
         if let Ok(value) = home.load(cell) {
             let text = O::show(value, rt.alloc())?;
