@@ -39,6 +39,7 @@ fn served<O: Operation, H, R>(
     requires { (entry.last < length bench.now.registers.now) × (length bench.now.registers.now < 17) }
     ensures { result ≡ served_at (length bench.now.registers.now) bench.now.registers.now cell entry.last entry.turn }
 {
+    // No `or_else`: of a closure that calls a function with a `requires` the check learns nothing.
     match entry.turn {
         Some(party) => Some(party),
         None => next_waiting(bench, cell, entry.last),

@@ -34,6 +34,7 @@ fn settle<O: Operation, H: Home<O>, R: Victim>(
     };
     match settle_legal(ticket, bench) {
         Ok(()) => (None, Answer::Settled),
+        // Both are answers here, and the ticket is kept for the calls to come.
         Err(Unsettled { refusal, ticket }) => (Some(ticket), Answer::Refused(refusal)),
     }
 }

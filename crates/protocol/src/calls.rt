@@ -102,6 +102,7 @@ pub fn settle<O: Operation, H: Home<O>, R: Victim>(
 {
     match audited(bench) {
         Ok(()) => settle_legal(ticket, bench),
+        // No `?`: the ticket goes back with the refusal.
         Err(refusal) => Err(Unsettled { refusal, ticket }),
     }
 }

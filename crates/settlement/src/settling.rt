@@ -100,6 +100,7 @@ pub fn settle_legal<O: Operation, H: Home<O>, R: Victim>(
             ticket.spend();
             Ok(())
         }
+        // No `?`: the ticket goes back with the refusal.
         Err(refusal) => Err(Unsettled { refusal, ticket }),
     }
 }
