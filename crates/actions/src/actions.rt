@@ -1,12 +1,11 @@
 // The three actions of an advance.
-ghost use Rattle.std.specs.Prelude.{◌≡◌, ◌+◌, ◌*◌, ◌/◌, ◌^◌, ◌<◌, ◌≤◌, length, slice_index_or};
-ghost use Rattle.tables.specs.declared.line.Line.TheVariants.{Invalid};
-ghost use Rattle.tables.specs.Lines.{cell_of, target};
+ghost use Rattle.std.specs.Prelude.{◌≡◌, ◌+◌, ◌*◌, ◌/◌, ◌^◌, ◌<◌, ◌≤◌, length};
+ghost use Rattle.tables.specs.Lines.{target};
 ghost use Rattle.victim.specs.Rules.{Servable};
 ghost use Rattle.model.specs.Steps.{turn_to};
 ghost use Rattle.model.specs.Decisions.{performed};
 ghost use Rattle.model.specs.declared.next.Next.TheVariants.{Recall, Evict, Grant};
-ghost use Rattle.bench.specs.Lent.{SameLoans, seen, terms};
+ghost use Rattle.bench.specs.Lent.{SameLoans, Sendable, seen, terms};
 ghost use Rattle.answers.specs.Answers.{advanced};
 
 use super::granting::{add_holder, answer_to, new_line};
@@ -40,8 +39,8 @@ pub fn recall<O: Operation, H: Home<O>, R: Victim>(
     served: usize,
     line: usize,
 ) -> Advanced
-    requires place { (line < length bench.old.lines.now) × ((1 ≤ bench.old.ways) × (line / bench.old.ways < 16)) }
-    requires cells { (cell < length bench.old.directory.now) × (cell_of (slice_index_or bench.old.lines.now line Invalid) < length bench.old.directory.now) }
+    requires within { cell < length bench.old.directory.now }
+    requires sendable { Sendable bench.old line }
     requires counts { bench.old.ledger.now.recalls < 2 ^ 63 }
     ensures answer { result ≡ Advanced.Recall (line / bench.old.ways) }
     ensures state { seen H.Home.meaning bench.new ≡ (performed (terms O.Operation.algebra R.Victim.rule H.Home.meaning bench.old) (seen H.Home.meaning bench.old) cell (Recall served line)).0 }
@@ -60,8 +59,7 @@ pub fn evict<O: Operation, H: Home<O>, R: Victim>(
     served: usize,
 ) -> Advanced
     requires limits { (Servable served bench.old.ways) × ((served * bench.old.ways ≤ 128) × (cell < length bench.old.directory.now)) }
-    requires place { (served * bench.old.ways + R.Victim.rule.picked bench.old.rule.now served bench.old.ways < length bench.old.lines.now) × ((served * bench.old.ways + R.Victim.rule.picked bench.old.rule.now served bench.old.ways) / bench.old.ways < 16) }
-    requires listed { cell_of (slice_index_or bench.old.lines.now (served * bench.old.ways + R.Victim.rule.picked bench.old.rule.now served bench.old.ways) Invalid) < length bench.old.directory.now }
+    requires sendable { Sendable bench.old (served * bench.old.ways + R.Victim.rule.picked bench.old.rule.now served bench.old.ways) }
     requires counts { bench.old.ledger.now.evictions < 2 ^ 63 }
     ensures answer { result ≡ Advanced.Evict (R.Victim.rule.picked bench.old.rule.now served bench.old.ways) }
     ensures state { seen H.Home.meaning bench.new ≡ (performed (terms O.Operation.algebra R.Victim.rule H.Home.meaning bench.old) (seen H.Home.meaning bench.old) cell (Evict served)).0 }

@@ -1,11 +1,10 @@
 // Sending a line home.
-ghost use Rattle.std.specs.Prelude.{◌≡◌, ◌+◌, ◌/◌, ◌^◌, ◌<◌, ◌≤◌, length, slice_index_or, slice_set};
-ghost use Rattle.tables.specs.declared.line.Line.TheVariants.{Invalid};
+ghost use Rattle.std.specs.Prelude.{◌≡◌, ◌+◌, ◌^◌, ◌<◌, length, slice_index_or, slice_set};
 ghost use Rattle.tables.specs.Lines.{cell_of};
 ghost use Rattle.tables.specs.Legal.{blank};
 ghost use Rattle.model.specs.Bench.{sent_home};
 ghost use Rattle.model.specs.Steps.{left_by, send, yield_more};
-ghost use Rattle.bench.specs.Lent.{SameLoans, seen, terms};
+ghost use Rattle.bench.specs.Lent.{SameLoans, Sendable, seen, terms};
 
 use bench::Bench;
 use memory::Home;
@@ -28,7 +27,7 @@ fn write_back<O: Operation, H: Home<O>>(home: &mut H, line: Line<O::Value, O::Pa
     }
 }
 
-// The cell that a line holds; an Invalid one has none, and 0 stands for it.
+// The cell that a line holds; an Invalid one has none, and 0 stands for it, as in the definition: none is ever sent.
 fn cell_of<V: Copy, P: Copy>(line: Line<V, P>) -> usize
     ensures { result ≡ cell_of line }
 {
@@ -55,8 +54,7 @@ fn drop_holder<O: Operation, H: Home<O>, R>(
 
 // Line i goes home, and its party is no longer a holder of its cell.
 pub fn send_home<O: Operation, H: Home<O>, R: Victim>(bench: &mut Bench<'_, O, H, R>, i: usize)
-    requires sizes { (i < length bench.old.lines.now) × ((1 ≤ bench.old.ways) × (i / bench.old.ways < 16)) }
-    requires listed { cell_of (slice_index_or bench.old.lines.now i Invalid) < length bench.old.directory.now }
+    requires { Sendable bench.old i }
     ensures state { seen H.Home.meaning bench.new ≡ send (terms O.Operation.algebra R.Victim.rule H.Home.meaning bench.old) (seen H.Home.meaning bench.old) i bench.old.ledger.now bench.old.rule.now }
     ensures lent { SameLoans bench.old bench.new }
 {
@@ -69,8 +67,7 @@ pub fn send_home<O: Operation, H: Home<O>, R: Victim>(bench: &mut Bench<'_, O, H
 
 // Line i goes home, and that is counted as a yield.
 pub fn yield_line<O: Operation, H: Home<O>, R: Victim>(bench: &mut Bench<'_, O, H, R>, i: usize)
-    requires sizes { (i < length bench.old.lines.now) × ((1 ≤ bench.old.ways) × (i / bench.old.ways < 16)) }
-    requires listed { cell_of (slice_index_or bench.old.lines.now i Invalid) < length bench.old.directory.now }
+    requires sendable { Sendable bench.old i }
     requires counts { bench.old.ledger.now.yields < 2 ^ 63 + 128 }
     ensures state { seen H.Home.meaning bench.new ≡ send (terms O.Operation.algebra R.Victim.rule H.Home.meaning bench.old) (seen H.Home.meaning bench.old) i (yield_more bench.old.ledger.now) bench.old.rule.now }
     ensures lent { SameLoans bench.old bench.new }

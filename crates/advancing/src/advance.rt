@@ -15,7 +15,7 @@ use bench::Bench;
 use decisions::decide;
 use memory::Home;
 use model::Next;
-use moves::check;
+use moves::{check, in_play};
 use operation::Operation;
 use tables::Refusal;
 use victim::Victim;
@@ -53,9 +53,7 @@ fn advance_checks<O: Operation, H: Home<O>, R>(
 ) -> Result<(), Refusal>
     ensures { result ≡ passes (need (is_open bench.now.ledger.now) LedgerClosed (need (nat_le (length bench.now.directory.now) (length (H.Home.meaning bench.now.home.now))) HomeTooSmall (need (counts_low bench.now.ledger.now) CountTooHigh (need (nat_lt cell (length bench.now.directory.now)) NoSuchCell None)))) }
 {
-    check(bench.ledger.is_open(), Refusal::LedgerClosed)?;
-    check(bench.directory.len() <= bench.home.cells(), Refusal::HomeTooSmall)?;
-    check(bench.ledger.counts_low(), Refusal::CountTooHigh)?;
+    in_play(bench)?;
     check(cell < bench.directory.len(), Refusal::NoSuchCell)
 }
 

@@ -3,10 +3,14 @@
 --   terms      what it is made over: the operation, the rule and its sizes
 --   stepped    the state and the answer that a call of it comes to, by the rules
 --   InOrder    its sizes fit and its tables are legal
+--   HasWays    its table of lines has all ways of the party
+--   Sendable   line i can be sent home: it stands in the table, and its cell in the directory
 --   SameLoans  it holds what it was lent, and so the lenders get back what it leaves there
-use Rattle.std.specs.Prelude.{◌≡◌, true, List}
+use Rattle.std.specs.Prelude.{◌≡◌, ℕ, ◌+◌, ◌*◌, ◌/◌, ◌<◌, ◌≤◌, true, List, length, slice_index_or}
 use Rattle.operation.specs.Algebra.{Algebra}
 use Rattle.victim.specs.Rules.{Rule}
+use Rattle.tables.specs.declared.line.Line.TheVariants.{Invalid}
+use Rattle.tables.specs.Lines.{cell_of}
 use Rattle.tables.specs.Legal.{Legal, fits}
 use Rattle.model.specs.declared.call.Call.{Call}
 use Rattle.model.specs.declared.answer.Answer.{Answer}
@@ -26,6 +30,15 @@ stepped op victim meaning b call = step (terms op victim meaning b) (seen meanin
 pub record InOrder {O H R V P : Type 0} (b : Bench O H R V P) : Type 0 where
   pub sizes : fits b.ways b.lines.now b.directory.now b.registers.now ≡ true
   pub legal : Legal b.ways b.lines.now b.directory.now b.registers.now
+
+abbrev pub HasWays : {O H R V P : Type 0} → Bench O H R V P → ℕ → Type 0
+HasWays b party = party * b.ways + b.ways ≤ length b.lines.now
+
+pub record Sendable {O H R V P : Type 0} (b : Bench O H R V P) (i : ℕ) : Type 0 where
+  pub place : i < length b.lines.now
+  pub wide : 1 ≤ b.ways
+  pub party : i / b.ways < 16
+  pub cell : cell_of (slice_index_or b.lines.now i Invalid) < length b.directory.now
 
 pub record SameLoans {O H R V P : Type 0} (b c : Bench O H R V P) : Type 0 where
   pub lines : c.lines.ghost_name ≡ b.lines.ghost_name

@@ -12,7 +12,9 @@ use memory::Home;
 use operation::Operation;
 use tables::{Entry, Ledger, Line, Register};
 
-// All that a call reads and changes, in place. Way w of party p is line p × `ways` + w.
+// All that a call reads and changes, in place. Way w of party p is line p × `ways` + w: the tables are the host's, of
+// whatever storage, so they are slices, and their sizes and legality a fact (`InOrder`) and not part of the type. (As
+// ghost fields of a struct over the loans they were tried: what the lenders get back is then not known.)
 #[derive(Drop)]
 pub struct Bench<'a, O: Operation, H, R> {
     pub lines: &'a mut [Line<O::Value, O::Partial>],
@@ -28,7 +30,8 @@ impl<'a, O: Operation, H: Home<O>, R> Bench<'a, O, H, R> {
     ghost use Rattle.bench.specs.Lent.{seen};
 
     // A bench over tables of any sizes and in any state. What the calls leave is with the lenders once the bench is
-    // let go. (A function, since the check has no proof of a literal of so many loans.)
+    // let go. (A function of seven parameters: here
+    // they come together. A literal was tried, and the check does not cover one of loans of several lifetimes.)
     pub fn over(
         lines: &'a mut [Line<O::Value, O::Partial>],
         directory: &'a mut [Entry],

@@ -1,5 +1,5 @@
 // Searches over the ways of a party.
-ghost use Rattle.std.specs.Prelude.{◌≡◌, ◌+◌, ◌*◌, ◌<◌, ◌≤◌, Bool, IfSome, length, position, slice_index_or};
+ghost use Rattle.std.specs.Prelude.{◌≡◌, ◌+◌, ◌<◌, ◌≤◌, Bool, IfSome, length, position, slice_index_or};
 ghost use Rattle.std.specs.Fn.{FnReturnsAt};
 ghost use Rattle.tables.specs.declared.line.Line.{Line};
 ghost use Rattle.tables.specs.declared.line.Line.TheVariants.{Invalid};
@@ -37,9 +37,11 @@ fn first_line<V: Copy, P: Copy, F: Fn(&Line<V, P>) -> bool>(
 }
 
 impl<'a, O: Operation, H, R> Bench<'a, O, H, R> {
+    ghost use Rattle.bench.specs.Lent.{HasWays};
+
     // The line that finishes the party's request as it stands.
     pub fn own_hit(&self, party: usize, request: Request<O::Value, O::Partial>) -> Option<usize>
-        requires { party * self.now.ways + self.now.ways ≤ length self.now.lines.now }
+        requires { HasWays self.now party }
         ensures { result ≡ own_hit_in self.now.ways self.now.lines.now party request }
     {
         first_line(
@@ -52,7 +54,7 @@ impl<'a, O: Operation, H, R> Bench<'a, O, H, R> {
 
     // The party's line of the cell.
     pub fn own_line(&self, party: usize, cell: usize) -> Option<usize>
-        requires { party * self.now.ways + self.now.ways ≤ length self.now.lines.now }
+        requires { HasWays self.now party }
         ensures { result ≡ own_line_in self.now.ways self.now.lines.now party cell }
     {
         first_line(
@@ -65,7 +67,7 @@ impl<'a, O: Operation, H, R> Bench<'a, O, H, R> {
 
     // The party's lowest Invalid way, as a line.
     pub fn vacant_way(&self, party: usize) -> Option<usize>
-        requires { party * self.now.ways + self.now.ways ≤ length self.now.lines.now }
+        requires { HasWays self.now party }
         ensures { result ≡ vacant_in self.now.ways self.now.lines.now party }
     {
         first_line(

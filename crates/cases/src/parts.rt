@@ -6,7 +6,7 @@ ghost use Rattle.cases.specs.Replies.{done_or, made_of, value_or};
 use super::texts::Reply;
 use memory::{Combining, Home, PlainCells};
 use operation::{Count, Delta, Operation, Total};
-use protocol::{Bench, abandon, make};
+use protocol::{Bench, abandon_bench, make};
 use tables::{Entry, Ledger, Line, Register, Status};
 use victim::Rotate;
 
@@ -98,7 +98,7 @@ fn make_and_abandon(
     );
     match make(&mut bench) {
         Ok(ticket) => {
-            let _ = abandon(ticket, &mut bench);
+            let _ = abandon_bench(ticket, &mut bench);
             Reply::Done
         }
         Err(refusal) => Reply::Refused(refusal.number()),

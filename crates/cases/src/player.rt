@@ -6,7 +6,7 @@ use super::cases::{
 use super::texts::{Held, Reply};
 use memory::{Home, PlainCells};
 use operation::{Count, Total};
-use protocol::{Bench, abandon, make};
+use protocol::{Bench, abandon_bench, make};
 use tables::{Entry, Ledger, Line, Register, Status};
 use victim::Rotate;
 use wording::answer_text;
@@ -48,7 +48,7 @@ fn play(rt: &HostRuntime, heading: &str, steps: &[Step]) -> anyhow::Result<()> {
         Ok(ticket) => {
             // Whatever becomes of the printing, the ticket is to be given up first.
             let printed = take_steps(rt, &mut bench, steps);
-            let left = abandon(ticket, &mut bench);
+            let left = abandon_bench(ticket, &mut bench);
             printed?;
             println!(rt; "abandon: left {left}")?;
         }

@@ -16,14 +16,14 @@ pub fn next_waiting<O: Operation, H, R>(
 {
     let parties = bench.registers.len();
     let mut passed = 0;
-    // A loop that breaks with its party, as the house wants this search to be written.
+    // A loop that breaks with its party: a form that was asked for (docs/DECISIONS.md, "Forms").
     'round: loop {
         if passed == parties {
-            break None;
+            break 'round None;
         }
         let party = (last + 1 + passed) % parties;
         if bench.register(party).waits_for(cell) {
-            break Some(party);
+            break 'round Some(party);
         }
         passed += 1;
     }

@@ -7,7 +7,7 @@ ghost use Rattle.host.specs.Endings.{ending};
 
 use memory::Home;
 use operation::Operation;
-use protocol::{Bench, Ticket, Unsettled, abandon, settle};
+use protocol::{Bench, Ticket, Unsettled, abandon_bench, settle};
 use tables::Refusal;
 use victim::Victim;
 
@@ -32,7 +32,7 @@ pub fn end<O: Operation, H: Home<O>, R: Victim>(
         Ok(()) => Ending::Settled,
         Err(unsettled) => {
             let Unsettled { refusal, ticket } = unsettled;
-            let left = abandon(ticket, bench);
+            let left = abandon_bench(ticket, bench);
             Ending::Abandoned { refusal, left }
         }
     }

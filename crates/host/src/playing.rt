@@ -1,4 +1,4 @@
-// Two small hosts: each makes a bench, has one request served on it, and gives its ticket up.
+// Two small hosts: each lends a bench its tables, makes it, has one request served on it, and gives its ticket up.
 ghost use Rattle.std.specs.Prelude.{◌≡◌, false, IfOk, OnOk};
 ghost use Rattle.tables.specs.Ledgers.{is_open};
 ghost use Rattle.model.specs.Steps.{final};
@@ -9,8 +9,8 @@ ghost use Rattle.host.specs.Servings.{served};
 use super::ending::{Ending, end};
 use memory::Home;
 use operation::Operation;
-use protocol::{Bench, abandon, advance, collect, make, post};
-use tables::{Refusal, Request};
+use protocol::{Bench, abandon_bench, advance, collect, make, post};
+use tables::{Entry, Ledger, Line, Refusal, Register, Request};
 use victim::Victim;
 
 // Posts a request and advances its cell once. Whatever is refused, the bench goes on, and its end is still owed.
@@ -26,8 +26,8 @@ fn serve<O: Operation, H: Home<O>, R: Victim>(
     let _ = advance(bench, request.cell());
 }
 
-// Has one request served and collected, and settles.
-pub fn play_one<O: Operation, H: Home<O>, R: Victim>(
+// Makes the bench, has one request served and collected, and ends it.
+fn play_served<O: Operation, H: Home<O>, R: Victim>(
     bench: &mut Bench<'_, O, H, R>,
     party: usize,
     request: Request<O::Value, O::Partial>,
@@ -41,9 +41,8 @@ pub fn play_one<O: Operation, H: Home<O>, R: Victim>(
     Ok(end(ticket, bench))
 }
 
-// Keeps its ticket in a slot while a request is served, and then abandons the bench, with the number of the lines
-// that are left with something to send home.
-pub fn play_slotted<O: Operation, H: Home<O>, R: Victim>(
+// Keeps the ticket in a slot while a request is served, and then abandons the bench.
+fn serve_slotted<O: Operation, H: Home<O>, R: Victim>(
     bench: &mut Bench<'_, O, H, R>,
     party: usize,
     request: Request<O::Value, O::Partial>,
@@ -54,5 +53,43 @@ pub fn play_slotted<O: Operation, H: Home<O>, R: Victim>(
     let mut slot = Some(make(bench)?);
     serve(bench, party, request);
     let ticket = slot.take().unwrap();
-    Ok(abandon(ticket, bench))
+    Ok(abandon_bench(ticket, bench))
+}
+
+// Lends a bench what it is handed, has one request served and collected, and settles; what the bench left is with the
+// lender afterwards.
+pub fn play_one<O: Operation, H: Home<O>, R: Victim>(
+    lines: &mut [Line<O::Value, O::Partial>],
+    directory: &mut [Entry],
+    registers: &mut [Register<O::Value, O::Partial>],
+    ledger: &mut Ledger,
+    rule: &mut R,
+    home: &mut H,
+    ways: usize,
+    party: usize,
+    request: Request<O::Value, O::Partial>,
+) -> Result<Ending, Refusal>
+    ensures { OnOk result (is_open ledger.new ≡ false) }
+{
+    let mut bench = Bench::<O, H, R>::over(lines, directory, registers, ledger, rule, home, ways);
+    play_served(&mut bench, party, request)
+}
+
+// Lends a bench what it is handed, has one request served and abandons it, with the number of the lines that are left
+// with something to send home.
+pub fn play_slotted<O: Operation, H: Home<O>, R: Victim>(
+    lines: &mut [Line<O::Value, O::Partial>],
+    directory: &mut [Entry],
+    registers: &mut [Register<O::Value, O::Partial>],
+    ledger: &mut Ledger,
+    rule: &mut R,
+    home: &mut H,
+    ways: usize,
+    party: usize,
+    request: Request<O::Value, O::Partial>,
+) -> Result<usize, Refusal>
+    ensures { IfOk result (λ left. (left ≡ owed lines.new) × (is_open ledger.new ≡ false)) }
+{
+    let mut bench = Bench::<O, H, R>::over(lines, directory, registers, ledger, rule, home, ways);
+    serve_slotted(&mut bench, party, request)
 }

@@ -24,7 +24,7 @@ use Rattle.model.proofs.Decisions.{Apt, apt, below}
 use Rattle.model.proofs.Sized.{no_rule, bare, bare_tabled, bare_limits}
 use Rattle.model.proofs.Tabled.{Limits, Tabled}
 use Rattle.bench.specs.declared.Bench.{Bench}
-use Rattle.bench.specs.Lent.{InOrder}
+use Rattle.bench.specs.Lent.{InOrder, Sendable}
 use Rattle.bench.proofs.Orders.{own_ways}
 
 -- counts that are low can rise
@@ -42,14 +42,6 @@ low g e =
     let f2 = and_parts (ltb g.hits (2 ^ 63) && ltb g.grants (2 ^ 63)) _ f3.0 in
     let f1 = and_parts (ltb g.hits (2 ^ 63)) _ f2.0 in
     record { hits = ltb-true _ _ f1.0; grants = ltb-true _ _ f1.1; recalls = ltb-true _ _ f2.1; evictions = ltb-true _ _ f3.1; yields = ltb-true _ _ f4.1 }
-
--- a line that can be sent home
-pub record Sendable {O H R V P : Type 0} (b : Bench O H R V P) (i : ℕ) : Type 0 where
-  pub place : i < length b.lines.now
-  pub wide : 1 ≤ b.ways
-  pub narrow : b.ways ≤ 8
-  pub party : i / b.ways < 16
-  pub cell : cell_of (get_or b.lines.now i Invalid) < length b.directory.now
 
 module _ {O H R V P : Type 0} (op : Algebra V P) (b : Bench O H R V P) (ok : InOrder b) where
   abbrev ways : ℕ
@@ -80,7 +72,6 @@ module _ {O H R V P : Type 0} (op : Algebra V P) (b : Bench O H R V P) (ok : InO
   sendable i l h = record {
     place = omega (arith, f.1);
     wide = f.0.ways_low;
-    narrow = f.0.ways_high;
     party = omega (arith, f.0.parties_high, below k tables t i (i / ways) (owns_div ways i f.0.ways_low) l);
     cell = t.within i h;
   }

@@ -8,7 +8,7 @@ ghost use Rattle.bench.specs.Lent.{InOrder, SameLoans, seen, stepped};
 ghost use Rattle.answers.specs.Answers.{yielded};
 ghost use Rattle.moves.specs.Checks.{passes};
 
-use super::checks::check;
+use super::checks::{check, in_play};
 use actions::yield_line;
 use bench::Bench;
 use memory::Home;
@@ -24,12 +24,7 @@ fn yield_checks<O: Operation, H: Home<O>, R>(
 ) -> Result<(), Refusal>
     ensures { result ≡ passes (need (is_open bench.now.ledger.now) LedgerClosed (need (nat_le (length bench.now.directory.now) (length (H.Home.meaning bench.now.home.now))) HomeTooSmall (need (counts_low bench.now.ledger.now) CountTooHigh (need (nat_lt party (length bench.now.registers.now)) NoSuchParty (need (nat_lt cell (length bench.now.directory.now)) NoSuchCell None))))) }
 {
-    check(bench.ledger.is_open(), Refusal::LedgerClosed)?;
-    check(
-        bench.directory.len() <= bench.home.cells(),
-        Refusal::HomeTooSmall,
-    )?;
-    check(bench.ledger.counts_low(), Refusal::CountTooHigh)?;
+    in_play(bench)?;
     check(party < bench.registers.len(), Refusal::NoSuchParty)?;
     check(cell < bench.directory.len(), Refusal::NoSuchCell)
 }

@@ -6,4 +6,4 @@ mod calls;
 
 pub use bench::Bench;
 pub use calls::{advance, collect, post, relinquish, settle};
-pub use settlement::{Ticket, Unsettled, abandon, make};
+pub use settlement::{Ticket, Unsettled, abandon, abandon_bench, make};

@@ -11,7 +11,7 @@ use memory::{Combining, Home, PlainCells};
 use model::{Answer, Call};
 use notation::Shown;
 use operation::{Count, Delta, Flags, Operation, Pair, Peak, Total};
-use protocol::{Bench, abandon};
+use protocol::{Bench, abandon_bench};
 use std::process::ExitCode;
 use tables::Ledger;
 use victim::{Oldest, Rotate, Victim};
@@ -79,7 +79,7 @@ fn play<O: Shown, H: Home<O> + Drop, R: Victim + Drop>(
     match run(&mut bench, calls, rt.alloc()) {
         Ok(Played { answers, ticket }) => {
             if let Some(ticket) = ticket {
-                let left = abandon(ticket, &mut bench);
+                let left = abandon_bench(ticket, &mut bench);
                 println!(rt; "left {left}")?;
             }
             print_answers::<O>(rt, answers.as_slice())?;

@@ -1,6 +1,6 @@
 // The end of a bench that is not settled.
 ghost use Rattle.std.specs.Prelude.{◌≡◌};
-ghost use Rattle.model.specs.Steps.{close};
+ghost use Rattle.model.specs.Steps.{close, shut};
 ghost use Rattle.bench.specs.Lent.{SameLoans, seen, terms};
 ghost use Rattle.settlement.specs.Left.{owed};
 
@@ -8,13 +8,14 @@ use super::ticket::Ticket;
 use bench::Bench;
 use memory::Home;
 use operation::Operation;
-use tables::{Line, Status};
+use tables::{Ledger, Line, Status};
 use victim::Victim;
 
 // How many lines hold what the home does not have: the Update-only and the Modified ones.
 fn unsettled<V: Copy, P: Copy>(lines: &[Line<V, P>]) -> usize
     ensures { result ≡ owed lines.now }
 {
+    // A loop over the lines that counts: a form that was asked for (docs/DECISIONS.md, "Forms").
     let mut count = 0;
     for line in lines {
         match line {
@@ -25,16 +26,34 @@ fn unsettled<V: Copy, P: Copy>(lines: &[Line<V, P>]) -> usize
     count
 }
 
-// How many lines of the bench do.
+// How many lines of the bench hold such. (A function, since the slice in a bench that is lent to be changed cannot be
+// lent on to be read.)
 fn left<O: Operation, H, R>(bench: &Bench<'_, O, H, R>) -> usize
     ensures { result ≡ owed bench.now.lines.now }
 {
     unsettled(bench.lines)
 }
 
+// No further call is taken.
+fn close(ledger: &mut Ledger)
+    ensures { ledger.new ≡ shut ledger.old }
+{
+    ledger.status = Status::Closed;
+}
+
 // Gives up the ticket without a settlement and closes the ledger. The answer is the number of lines that were
 // left with something to send home. The lines may be of any number and in any state: nothing is refused.
-pub fn abandon<O: Operation, H: Home<O>, R: Victim>(
+pub fn abandon<V: Copy, P: Copy>(ticket: Ticket, lines: &[Line<V, P>], ledger: &mut Ledger) -> usize
+    ensures left { result ≡ owed lines.now }
+    ensures ledger { ledger.new ≡ shut ledger.old }
+{
+    ticket.spend();
+    close(ledger);
+    unsettled(lines)
+}
+
+// The same of a bench, for a host that still has it.
+pub fn abandon_bench<O: Operation, H: Home<O>, R: Victim>(
     ticket: Ticket,
     bench: &mut Bench<'_, O, H, R>,
 ) -> usize
@@ -44,6 +63,6 @@ pub fn abandon<O: Operation, H: Home<O>, R: Victim>(
     ensures lent { SameLoans bench.old bench.new }
 {
     ticket.spend();
-    bench.ledger.status = Status::Closed;
+    close(bench.ledger);
     left(bench)
 }

@@ -7,7 +7,7 @@ mod making;
 mod settling;
 mod ticket;
 
-pub use ending::abandon;
+pub use ending::{abandon, abandon_bench};
 pub use making::{make, makeable};
 pub use settling::settle_legal;
 pub use ticket::{Ticket, Unsettled};

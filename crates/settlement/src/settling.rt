@@ -1,13 +1,13 @@
 // The settlement of a bench on tables that are known to be legal: every line goes home, and the ledger is closed.
-ghost use Rattle.std.specs.Prelude.{◌≡◌, ◌+◌, ◌*◌, ◌/◌, ◌^◌, ◌<◌, ◌≤◌, true, length, None, nat_le, slice_index_or};
+ghost use Rattle.std.specs.Prelude.{◌≡◌, ◌+◌, ◌*◌, ◌^◌, ◌<◌, true, length, None, nat_le, slice_index_or};
 ghost use Rattle.tables.specs.declared.line.Line.TheVariants.{Invalid};
 ghost use Rattle.tables.specs.declared.refusal.Refusal.TheVariants.{LedgerClosed, HomeTooSmall, CountTooHigh, Unfinished};
 ghost use Rattle.tables.specs.Ledgers.{is_open, counts_low};
-ghost use Rattle.tables.specs.Lines.{is_held, cell_of};
+ghost use Rattle.tables.specs.Lines.{is_held};
 ghost use Rattle.model.specs.declared.call.Call.TheVariants.{Settle};
 ghost use Rattle.model.specs.Bench.{all_empty};
 ghost use Rattle.model.specs.Steps.{need, emptied, all_sent};
-ghost use Rattle.bench.specs.Lent.{InOrder, SameLoans, seen, stepped, terms};
+ghost use Rattle.bench.specs.Lent.{InOrder, SameLoans, Sendable, seen, stepped, terms};
 ghost use Rattle.settlement.specs.Answers.{settled};
 ghost use Rattle.settlement.specs.Tried.{tried};
 ghost use Rattle.moves.specs.Checks.{passes};
@@ -16,7 +16,7 @@ use super::ticket::{Ticket, Unsettled};
 use actions::yield_line;
 use bench::Bench;
 use memory::Home;
-use moves::check;
+use moves::{check, in_play};
 use operation::Operation;
 use tables::{Refusal, Register, Status};
 use victim::Victim;
@@ -32,19 +32,14 @@ fn all_empty<V: Copy, P: Copy>(registers: &[Register<V, P>]) -> bool
 fn settle_checks<O: Operation, H: Home<O>, R>(bench: &Bench<'_, O, H, R>) -> Result<(), Refusal>
     ensures { result ≡ passes (need (is_open bench.now.ledger.now) LedgerClosed (need (nat_le (length bench.now.directory.now) (length (H.Home.meaning bench.now.home.now))) HomeTooSmall (need (counts_low bench.now.ledger.now) CountTooHigh (need (all_empty bench.now.registers.now) Unfinished None)))) }
 {
-    check(bench.ledger.is_open(), Refusal::LedgerClosed)?;
-    check(
-        bench.directory.len() <= bench.home.cells(),
-        Refusal::HomeTooSmall,
-    )?;
-    check(bench.ledger.counts_low(), Refusal::CountTooHigh)?;
+    in_play(bench)?;
     check(all_empty(bench.registers), Refusal::Unfinished)
 }
 
 // Line i goes home, if it holds anything, and is counted as a yield.
 fn send_one<O: Operation, H: Home<O>, R: Victim>(bench: &mut Bench<'_, O, H, R>, i: usize)
-    requires place { (i < length bench.old.lines.now) × ((1 ≤ bench.old.ways) × (i / bench.old.ways < 16)) }
-    requires listed { is_held (slice_index_or bench.old.lines.now i Invalid) ≡ true → cell_of (slice_index_or bench.old.lines.now i Invalid) < length bench.old.directory.now }
+    requires place { i < length bench.old.lines.now }
+    requires sendable { is_held (slice_index_or bench.old.lines.now i Invalid) ≡ true → Sendable bench.old i }
     requires counts { bench.old.ledger.now.yields < 2 ^ 63 + 128 }
     ensures state { seen H.Home.meaning bench.new ≡ emptied (terms O.Operation.algebra R.Victim.rule H.Home.meaning bench.old) (is_held (slice_index_or bench.old.lines.now i Invalid)) (seen H.Home.meaning bench.old) i }
     ensures lent { SameLoans bench.old bench.new }

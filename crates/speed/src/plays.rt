@@ -6,7 +6,7 @@ use memory::PlainCells;
 use model::Call;
 use operation::{Count, Delta, Total};
 use protocol::{
-    Bench, Ticket, Unsettled, abandon, advance, collect, make, post, relinquish, settle,
+    Bench, Ticket, Unsettled, abandon_bench, advance, collect, make, post, relinquish, settle,
 };
 use std::alloc::{AllocError, Global};
 use tables::{Ledger, Refusal};
@@ -36,7 +36,7 @@ fn one_run(
     match run(bench, calls, heap) {
         Ok(Played { answers: _, ticket }) => {
             if let Some(ticket) = ticket {
-                let _left = abandon(ticket, bench);
+                let _left = abandon_bench(ticket, bench);
             }
             Ok(())
         }
@@ -87,7 +87,7 @@ fn one_by_one(
         kept = call_once(bench, kept, *call);
     }
     if let Some(ticket) = kept {
-        let _left = abandon(ticket, bench);
+        let _left = abandon_bench(ticket, bench);
     }
     Ok(())
 }

@@ -26,7 +26,7 @@ returns-in-Err g c =
     let why = refused_some k s after n (settle_refusal k s) e in
     let still = refused_still k s after n (settle_refusal k s) e in
     record {
-      answer = ap (λ m. Abandoned n m) c.abandon-left.ensures.left ∙ ap (λ (z : State _ _ _). Abandoned n (owed z.lines)) still ∙ sym (ap (λ x. ending x s) why);
-      state = c.abandon-left.ensures.state ∙ ap (close k) still ∙ sym (ap (λ x. close k (settle_if k x s).0) why);
+      answer = ap (λ m. Abandoned n m) c.abandon_bench-left.ensures.left ∙ ap (λ (z : State _ _ _). Abandoned n (owed z.lines)) still ∙ sym (ap (λ x. ending x s) why);
+      state = c.abandon_bench-left.ensures.state ∙ ap (close k) still ∙ sym (ap (λ x. close k (settle_if k x s).0) why);
       lent = Prim.search rules;
     }

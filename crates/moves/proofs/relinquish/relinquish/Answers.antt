@@ -22,7 +22,7 @@ pub yield_line-requires : goal.yield_line-requires
 yield_line-requires g c =
     let f = (yield_facts g.O.Operation.algebra g.R.Victim.rule g.H.Home.meaning c.args.bench.now c.requires c.args.party c.args.cell c.in_ok-yield_checks.ensures) in
     let y = own_sendable g.O.Operation.algebra c.args.bench.now c.requires c.args.party c.args.cell c.in-Some.i (yield_facts g.O.Operation.algebra g.R.Victim.rule g.H.Home.meaning c.args.bench.now c.requires c.args.party c.args.cell c.in_ok-yield_checks.ensures).1 (sym c.in-Some.ensures) in
-    record { sizes = (y.place, (y.wide, y.party)); listed = y.cell; counts = omega (arith, (low c.args.bench.now.ledger.now f.0).yields) }
+    record { sendable = y; counts = omega (arith, (low c.args.bench.now.ledger.now f.0).yields) }
 
 pub returns-in-Some : goal.returns-in-Some
 returns-in-Some g c =

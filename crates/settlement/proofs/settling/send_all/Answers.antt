@@ -28,9 +28,10 @@ send_one-requires g c =
     let inv = c.loop-i.invariant in
     let all = (limits_of g.O.Operation.algebra g.R.Victim.rule c.args.bench.now.ways s₀ c.requires.in_order.sizes).1 in
     let y = place k s i inv.tabled (omega (arith, all)) in
+    let here : i < length c.loop-i.bench.lines.now = omega (arith, all, inv.tabled.lines_length) in
     record {
-      place = (omega (arith, all, inv.tabled.lines_length), (omega (arith, y.wide, inv.lent.ways), subst (λ (w : ℕ). i / w < 16) (sym inv.lent.ways) y.party));
-      listed = y.listed;
+      place = here;
+      sendable = λ held. record { place = here; wide = omega (arith, y.wide, inv.lent.ways); party = subst (λ (w : ℕ). i / w < 16) (sym inv.lent.ways) y.party; cell = y.listed held };
       counts = omega (arith, (low c.args.bench.now.ledger.now c.requires.counts).yields, y.few, inv.yields);
     }
 
