@@ -19,7 +19,7 @@ pub use sizes::sizes_fit;
 use tables::{Entry, Line, Refusal, Register};
 
 // Whether tables whose sizes fit are legal, in one pass over the lines and one over the directory. The tables come as
-// four parameters, as `audit` is lent them: a struct for this one function would be longer.
+// four parameters here and in `audit` and `sizes_fit`: they are lent so, and a caller need have no bench of them.
 fn is_legal<V: Copy, P: Copy>(
     lines: &[Line<V, P>],
     directory: &[Entry],

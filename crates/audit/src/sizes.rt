@@ -1,4 +1,4 @@
-// The limits of a bench's sizes.
+// The limits of a bench's sizes. A victim rule and a script have limits of their own, and know no bench.
 ghost use Rattle.std.specs.Prelude.{◌≡◌, ◌≤◌, ◌&&◌, MatchBool, nat_le};
 ghost use Rattle.tables.specs.Legal.{fits};
 

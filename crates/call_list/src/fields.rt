@@ -18,7 +18,7 @@ pub fn next_field<'a>(fields: &mut SplitWhitespace<'a>) -> Result<&'a str, Reaso
 pub fn end_of_fields(fields: &mut SplitWhitespace) -> Result<(), Reason>
     ensures { MatchResult result (λ _. Words (split_whitespace_rest fields.old) []) (λ e. e ≡ Extra) }
 {
-    // A match, since `Option` has no method that makes an error of what is there.
+    // A match says it plainer than `map_or` would.
     match fields.next() {
         None => Ok(()),
         Some(_) => Err(Reason::Extra),

@@ -1,5 +1,5 @@
 // A list of calls: a line with the operation and the number of cells, and then a line for each call.
-ghost use Rattle.std.specs.Prelude.{◌≡◌, ℕ, ◌-◌, ◌^◌, List, IfOk, MatchResult, ◌≢◌};
+ghost use Rattle.std.specs.Prelude.{◌≡◌, ◌-◌, ◌^◌, IfOk, MatchResult, ◌≢◌};
 ghost use Rattle.notation.specs.Scales.{natural, Reads};
 ghost use Rattle.call_list.specs.declared.faults.Reason.TheVariants.{Word, Operation as NoOperation};
 ghost use Rattle.notation.specs.declared.Kind.{Kind};

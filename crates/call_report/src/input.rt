@@ -1,5 +1,5 @@
 // The text of a list of calls, and its first line.
-ghost use Rattle.std.specs.Prelude.{◌≡◌, ◌+◌, ◌≤◌, length, take, IfOk, count_by, IfErr};
+ghost use Rattle.std.specs.Prelude.{◌≡◌, ◌+◌, take, IfOk, count_by, IfErr};
 ghost use Rattle.call_report.specs.Inputs.{line_feed, Headed};
 
 use call_list::{Fault, Reason, read_head};

@@ -1,8 +1,8 @@
 // The report on a list of calls.
-ghost use Rattle.std.specs.Prelude.{◌≡◌, ◌++◌, IfOk, string_bytes, MatchResult};
+ghost use Rattle.std.specs.Prelude.{◌≡◌, IfOk, string_bytes, MatchResult};
 ghost use Rattle.call_list.specs.Script.{Blamed};
 ghost use Rattle.call_report.specs.Inputs.{Reported, Answers};
-ghost use Rattle.call_report.specs.Reports.{counts_line, reached_lines, verdict_line, layout, report_text};
+ghost use Rattle.call_report.specs.Reports.{counts_line, reached_lines, verdict_line, report_text};
 
 use super::comparison::{Comparison, compare};
 use super::input::{head_of, text_of};

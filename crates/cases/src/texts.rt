@@ -62,7 +62,8 @@ impl fmt::Display for Held {
     }
 }
 
-// What a make, or a call of a home, comes to: a refusal by its number, whichever of the two types it has.
+// What a make, or a call of a home, comes to, as it is printed. A `Result` would have to name a refusal's type, and there
+// are two, so a refusal is here by its number.
 #[derive(Clone, Copy)]
 pub enum Reply {
     Done,

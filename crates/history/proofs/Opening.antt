@@ -99,9 +99,6 @@ module _ {V P R : Type 0} (k : Bench V P R) (s : State V P R) where
   pub kept_open : (c : Call V P) {t : State V P R} {x : Answer V} → t ≡ (step k s c).0 → x ≡ (step k s c).1 → ends x ≡ false → is_open s.ledger ≡ is_open t.ledger
   kept_open c e f h = sym (ap (λ (z : State V P R). is_open z.ledger) e ∙ step_open c ∙ ap (λ (y : Answer V). cond (ends y) false (is_open s.ledger)) (sym f) ∙ ap (λ b. cond b false (is_open s.ledger)) h)
 
-  pub now_shut : (c : Call V P) {t : State V P R} {x : Answer V} → t ≡ (step k s c).0 → x ≡ (step k s c).1 → ends x ≡ true → is_open t.ledger ≡ false
-  now_shut c e f h = ap (λ (z : State V P R). is_open z.ledger) e ∙ step_open c ∙ ap (λ (y : Answer V). cond (ends y) false (is_open s.ledger)) (sym f) ∙ ap (λ b. cond b false (is_open s.ledger)) h
-
 -- what the calls other than a settle answer ends no bench
 module _ (V : Type 0) where
   pub post_no_end : (r : Result Posted Refusal) → ends {V = V} (posted r) ≡ false

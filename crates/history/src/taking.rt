@@ -1,5 +1,5 @@
 // One call of a run. The tables of a run stay legal, so they are not audited again.
-ghost use Rattle.std.specs.Prelude.{◌≡◌, true};
+ghost use Rattle.std.specs.Prelude.{◌≡◌};
 ghost use Rattle.tables.specs.Ledgers.{is_open};
 ghost use Rattle.model.specs.declared.call.Call.TheVariants.{Settle};
 ghost use Rattle.bench.specs.Lent.{InOrder, SameLoans, seen, stepped};

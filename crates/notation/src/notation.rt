@@ -42,6 +42,7 @@ impl Notation for Total {
     }
 }
 
+// Peak and Flags differ in their numbers' type alone; what is left of each is two calls of the generic `read`.
 impl Notation for Peak {
     ghost valued = { Reads (natural (2 ^ 64 - 1)) };
 

@@ -12,7 +12,7 @@ pub type Bare<O> = Counting<PlainCells<O>>;
 
 // Layers over counted cells, which a play may begin on and end.
 pub trait Pile<O: Operation>: Home<O> + Drop {
-    // The pile over a row, with nothing counted nor held.
+    // The pile over a row, which means what the row does.
     fn on_row(row: Vec<O::Value>) -> Self
         ensures { Self.Home.meaning result ≡ counted row.items };
 

@@ -13,9 +13,8 @@ use notation::Shown;
 use operation::{Count, Delta, Flags, Operation, Pair, Peak, Total};
 use protocol::{Bench, abandon_bench};
 use std::process::ExitCode;
-use tables::Ledger;
 use victim::{Oldest, Rotate, Victim};
-use wording::answer_text;
+use wording::{answer_text, tally_text};
 use workbench::{Workbench, row_of};
 
 fn print_answers<O: Shown>(rt: &HostRuntime, answers: &[Answer<O::Value>]) -> anyhow::Result<()> {
@@ -23,21 +22,6 @@ fn print_answers<O: Shown>(rt: &HostRuntime, answers: &[Answer<O::Value>]) -> an
         let text = answer_text::<O>(*answer, rt.alloc())?;
         println!(rt; "{i} {text}")?;
     }
-    Ok(())
-}
-
-fn print_tally(rt: &HostRuntime, ledger: &Ledger) -> anyhow::Result<()> {
-    let Ledger {
-        hits,
-        grants,
-        recalls,
-        evictions,
-        yields,
-        ..
-    } = *ledger;
-    println!(rt;
-        "tally hits {hits} grants {grants} recalls {recalls} evictions {evictions} yields {yields}"
-    )?;
     Ok(())
 }
 
@@ -83,7 +67,8 @@ fn play<O: Shown, H: Home<O> + Drop, R: Victim + Drop>(
                 println!(rt; "left {left}")?;
             }
             print_answers::<O>(rt, answers.as_slice())?;
-            print_tally(rt, bench.ledger)?;
+            let tally = tally_text(bench.ledger, rt.alloc())?;
+            println!(rt; "{tally}")?;
             print_cells::<O, H>(rt, bench.home)
         }
         Err(Unplayed::Refused(refusal)) => {

@@ -45,7 +45,8 @@ impl<'a> Line<'a> {
         }
     }
 
-    // A number of the range. Two bounds, and no `RangeInclusive`: each clause would have to rule out that its end is spent.
+    // A number of the range. Two bounds, and no `RangeInclusive`: one that was iterated over holds nothing any more, and each
+    // clause would have to rule that out.
     pub fn number(&mut self, least: i128, most: i128) -> Result<i128, FieldFault>
         ensures value { result ≡ (number_from least most (rest self.old)).0 }
         ensures rest { rest self.new ≡ (number_from least most (rest self.old)).1 }

@@ -42,7 +42,8 @@ impl Scripted for Total {
     }
 }
 
-// Peak and Flags share one call each; a refusal by `TryFrom`, generic in the number, would know no place in the line.
+// Peak and Flags differ in the range of their numbers alone, and one call each is left. One function for both would convert
+// by `TryFrom`, whose refusal knows no place in the line.
 impl Scripted for Peak {
     ghost values = { naturals (2 ^ 64 - 1) };
 

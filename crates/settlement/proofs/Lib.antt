@@ -1,3 +1,2 @@
-mod Counting
 mod Filling
 pub mod Sending

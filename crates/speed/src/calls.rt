@@ -41,7 +41,7 @@ const CALLS_IN_A_TURN: usize = 5;
 
 fn some_cell(dice: &mut Dice) -> usize {
     let hot = dice.roll(16) < 15;
-    dice.roll(if hot { HOT_CELLS } else { CELLS as u64 }) as usize
+    dice.roll(if hot { HOT_CELLS } else { u64::from(CELLS) }) as usize
 }
 
 fn request(dice: &mut Dice, cell: usize) -> Request<Count, Delta> {
@@ -64,8 +64,8 @@ pub fn contended(count: usize, heap: Global) -> Result<Vec<Call<Count, Delta>>, 
     let mut cells = [0; PARTIES as usize];
     let mut calls = Vec::new(heap);
     for turn in 0..count / CALLS_IN_A_TURN + 1 {
-        let party = turn % PARTIES as usize;
-        if turn / PARTIES as usize % TURNS_WITH_A_CELL == 0 {
+        let party = turn % usize::from(PARTIES);
+        if turn / usize::from(PARTIES) % TURNS_WITH_A_CELL == 0 {
             cells[party] = some_cell(&mut dice);
         }
         let cell = cells[party];

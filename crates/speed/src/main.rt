@@ -12,7 +12,7 @@ use plays::{End, as_one_run, call_by_call};
 use std::env;
 use std::process::ExitCode;
 use std::time::{Duration, Instant};
-use tables::Ledger;
+use wording::tally_text;
 
 const FEW: usize = 3000;
 
@@ -21,18 +21,9 @@ fn same_end(a: &End, b: &End) -> bool {
 }
 
 fn print_ends(rt: &HostRuntime, calls: usize, a: &End, b: &End) -> anyhow::Result<()> {
-    let Ledger {
-        hits,
-        grants,
-        recalls,
-        evictions,
-        yields,
-        ..
-    } = a.ledger;
+    let tally = tally_text(&a.ledger, rt.alloc())?;
     println!(rt; "calls {calls}")?;
-    println!(rt;
-        "tally hits {hits} grants {grants} recalls {recalls} evictions {evictions} yields {yields}"
-    )?;
+    println!(rt; "{tally}")?;
     let same = if same_end(a, b) {
         "the same"
     } else {

@@ -1,7 +1,9 @@
--- An answer in words
---   said  what is printed of an answer, given how a value is shown
+-- Answers and counts in words
+--   said   what is printed of an answer, given how a value is shown
+--   tally  what is printed of a ledger's counts
 use Rattle.std.specs.Prelude.{ℕ, List, ◌++◌, Some, None, codes, decimal}
 use Rattle.tables.specs.Refusals.{number_of}
+use Rattle.tables.specs.declared.ledger.Ledger.{Ledger}
 use Rattle.model.specs.declared.answer.Answer.{Answer}
 use Rattle.model.specs.declared.answer.Answer.TheVariants.{Refused, Hit, Queued, Idle, Recall, Evict, Grant, Collected, Yielded, Settled}
 
@@ -17,3 +19,6 @@ said shown (Collected (Some value)) = codes "value " ++ shown value
 said shown (Collected None) = codes "done"
 said shown Yielded = codes "yielded"
 said shown Settled = codes "settled"
+
+abbrev pub tally : Ledger → List ℕ
+tally g = codes "tally hits " ++ (decimal g.hits ++ (codes " grants " ++ (decimal g.grants ++ (codes " recalls " ++ (decimal g.recalls ++ (codes " evictions " ++ (decimal g.evictions ++ (codes " yields " ++ decimal g.yields))))))))

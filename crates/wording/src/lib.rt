@@ -1,12 +1,13 @@
-// The answers of a bench in words, as programs print them.
+// The answers and the counts of a bench in words, as programs print them.
 #![tactic(auto)]
 
 ghost use Rattle.std.specs.Prelude.{◌≡◌, IfOk, string_bytes};
-ghost use Rattle.wording.specs.Answers.{said};
+ghost use Rattle.wording.specs.Answers.{said, tally};
 
 use model::Answer;
 use notation::Shown;
 use std::alloc::{AllocError, Global};
+use tables::Ledger;
 
 #[cfg(test)]
 mod tests;
@@ -34,4 +35,21 @@ pub fn answer_text<O: Shown>(answer: Answer<O::Value>, heap: Global) -> Result<S
         Answer::Yielded => format!(in heap; "yielded"),
         Answer::Settled => format!(in heap; "settled"),
     }
+}
+
+// What a ledger has counted.
+pub fn tally_text(ledger: &Ledger, heap: Global) -> Result<String, AllocError>
+    ensures { IfOk result (λ s. string_bytes s ≡ tally ledger.now) }
+{
+    let Ledger {
+        hits,
+        grants,
+        recalls,
+        evictions,
+        yields,
+        ..
+    } = *ledger;
+    format!(in heap;
+        "tally hits {hits} grants {grants} recalls {recalls} evictions {evictions} yields {yields}"
+    )
 }
