@@ -18,21 +18,25 @@ pub fn acting(rt: &HostRuntime) -> anyhow::Result<()> {
     Ok(())
 }
 
-fn done(res: Result<(), memory::Refusal>) -> Reply
-    ensures { result ≡ done_or res }
-{
-    match res {
-        Ok(()) => Reply::Done,
-        Err(refusal) => Reply::Refused(refusal.number()),
+impl From<Result<(), memory::Refusal>> for Reply {
+    ghost from_gives = { λ res reply. reply ≡ done_or res };
+
+    fn from(res: Result<(), memory::Refusal>) -> Reply {
+        match res {
+            Ok(()) => Reply::Done,
+            Err(refusal) => Reply::Refused(refusal.number()),
+        }
     }
 }
 
-fn loaded(res: Result<Count, memory::Refusal>) -> Reply
-    ensures { result ≡ value_or res }
-{
-    match res {
-        Ok(value) => Reply::Value(value.get()),
-        Err(refusal) => Reply::Refused(refusal.number()),
+impl From<Result<Count, memory::Refusal>> for Reply {
+    ghost from_gives = { λ res reply. reply ≡ value_or res };
+
+    fn from(res: Result<Count, memory::Refusal>) -> Reply {
+        match res {
+            Ok(value) => Reply::Value(value.get()),
+            Err(refusal) => Reply::Refused(refusal.number()),
+        }
     }
 }
 
@@ -40,9 +44,9 @@ fn loaded(res: Result<Count, memory::Refusal>) -> Reply
 pub fn combining(rt: &HostRuntime) -> anyhow::Result<()> {
     let below = PlainCells::<Total>::new(vec![in rt.alloc(); Count::new(10)]?);
     let mut home = Combining::<Total, PlainCells<Total>>::over(below);
-    let applied = done(home.apply(0, Delta::new(5)));
-    let stored = done(home.store(0, Count::new(9)));
-    let value = loaded(home.load(0));
+    let applied = Reply::from(home.apply(0, Delta::new(5)));
+    let stored = Reply::from(home.store(0, Count::new(9)));
+    let value = Reply::from(home.load(0));
     println!(rt; "case 8")?;
     println!(rt; "apply 0 by 5: {applied}")?;
     println!(rt; "store 0 value 9: {stored}")?;

@@ -12,6 +12,7 @@ pub enum Kind {
 
 impl Kind {
     // The operation that a word names.
+    // (An `Option` and no `TryFrom`: what is wrong with an unknown word is for its reader to say.)
     pub fn named(word: &[u8]) -> Option<Kind>
         ensures { result ≡ kind_of word.now }
     {

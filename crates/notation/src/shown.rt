@@ -4,7 +4,7 @@ ghost use Rattle.std.specs.Prelude.{◌≡◌, ℕ, List, ◌++◌, IfOk, string
 use operation::{Count, Flags, Operation, Pair, Peak, Total};
 use std::alloc::{AllocError, Global};
 
-// An operation whose values have a text. `shown` says which.
+// An operation whose values have a text. `shown` says which. (No `Display`: the values are numbers and pairs, which are not ours.)
 pub trait Shown: Operation {
     ghost shown: { Self.Value → List ℕ };
 

@@ -16,19 +16,11 @@ use wording::tally_text;
 
 const FEW: usize = 3000;
 
-fn same_end(a: &End, b: &End) -> bool {
-    a.ledger == b.ledger && a.cells.as_slice() == b.cells.as_slice()
-}
-
 fn print_ends(rt: &HostRuntime, calls: usize, a: &End, b: &End) -> anyhow::Result<()> {
     let tally = tally_text(&a.ledger, rt.alloc())?;
     println!(rt; "calls {calls}")?;
     println!(rt; "{tally}")?;
-    let same = if same_end(a, b) {
-        "the same"
-    } else {
-        "different"
-    };
+    let same = if a == b { "the same" } else { "different" };
     println!(rt; "one run and call by call end {same}")?;
     Ok(())
 }

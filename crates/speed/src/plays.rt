@@ -14,7 +14,7 @@ use victim::Oldest;
 use workbench::{Workbench, row_of};
 
 // What a play leaves behind, to be compared.
-#[derive(Drop)]
+#[derive(Drop, PartialEq)]
 pub struct End {
     pub ledger: Ledger,
     pub cells: Vec<Count>,
@@ -40,6 +40,7 @@ fn one_run(
             }
             Ok(())
         }
+        // Told here: the two are no errors of `anyhow`'s, and `runs` prints the first as an answer.
         Err(Unplayed::Refused(refusal)) => refused(refusal),
         Err(Unplayed::OutOfMemory) => bail!("no memory for the answers"),
     }

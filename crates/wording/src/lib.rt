@@ -12,7 +12,8 @@ use tables::Ledger;
 #[cfg(test)]
 mod tests;
 
-// What is printed of an answer: a refusal by its number, a collect by its value or as done.
+// What is printed of an answer: a refusal by its number, a collect by its value or as done. (A function and no `Display`:
+// how a value is written is the operation's, and an answer alone does not know it.)
 pub fn answer_text<O: Shown>(answer: Answer<O::Value>, heap: Global) -> Result<String, AllocError>
     ensures { IfOk result (λ s. string_bytes s ≡ said O.Shown.shown answer) }
 {
