@@ -36,7 +36,11 @@ impl<V: Copy, P: Copy> Workbench<V, P> {
         ensures { IfOk result (λ b. (length b.lines.items ≡ parties * ways) × (length b.directory.items ≡ cells) × (length b.registers.items ≡ parties)) }
     {
         Ok(Workbench {
-            lines: row_of(Line::Invalid, usize::from(parties) * usize::from(ways), heap)?,
+            lines: row_of(
+                Line::Invalid,
+                usize::from(parties) * usize::from(ways),
+                heap,
+            )?,
             directory: row_of(Entry::free(0), usize::from(cells), heap)?,
             registers: row_of(Register::Empty, usize::from(parties), heap)?,
             ledger: Ledger::new(Status::Closed),
