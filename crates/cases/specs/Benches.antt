@@ -8,8 +8,8 @@ use Rattle.memory.specs.Row.{counted}
 use Rattle.memory.specs.declared.plain.PlainCells.{PlainCells}
 use Rattle.model.specs.declared.call.Call as model
 use Rattle.model.specs.declared.call.Call.TheVariants as model-call
-use Rattle.cases.specs.declared.bench.Call.{Call}
-use Rattle.cases.specs.declared.bench.Call.TheVariants.{Post, Advance, Collect, Yield}
+use Rattle.cases.specs.declared.calls.Call.{Call}
+use Rattle.cases.specs.declared.calls.Call.TheVariants.{Post, Advance, Collect, Yield}
 
 abbrev pub asked : Call → model.Call Count Delta
 asked (Post p r) = model-call.Post p r

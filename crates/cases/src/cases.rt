@@ -1,10 +1,10 @@
 // The cases that are played on a bench, each from its making on.
 ghost use Rattle.std.specs.Prelude.{◌≡◌, ◌++◌, IfOk};
 ghost use Rattle.tables.specs.declared.request.Request.TheVariants.{Read};
-ghost use Rattle.cases.specs.declared.bench.Call.TheVariants as call;
+ghost use Rattle.cases.specs.declared.calls.Call.TheVariants as call;
 ghost use Rattle.cases.specs.declared.cases.Step.TheVariants as step;
 
-use super::bench::Call;
+use super::calls::Call;
 use operation::Delta;
 use std::alloc::{AllocError, Global};
 use tables::Request;

@@ -1,7 +1,7 @@
 // Plays worked cases of the bench and of its parts, and prints every call with its answer.
 #![tactic(auto)]
 
-mod bench;
+mod calls;
 mod cases;
 mod parts;
 mod player;

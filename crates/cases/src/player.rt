@@ -1,5 +1,5 @@
 // Plays cases, and prints a line for each step.
-use super::bench::answer;
+use super::calls::answer;
 use super::cases::{
     Step, a_hit, a_late_update, a_read, a_yield, an_eviction, one_update, two_updates,
 };

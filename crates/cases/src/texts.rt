@@ -1,5 +1,5 @@
 // Calls and lines as text: what is printed of a case.
-use super::bench::Call;
+use super::calls::Call;
 use operation::{Count, Delta};
 use std::fmt;
 use tables::{Line, Request};
