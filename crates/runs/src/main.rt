@@ -71,6 +71,7 @@ fn play<O: Shown, H: Home<O> + Drop, R: Victim + Drop>(
             println!(rt; "{tally}")?;
             print_cells::<O, H>(rt, bench.home)
         }
+        // Told here and not by `?`: a refusal is printed as an answer, and is no fault of the program's.
         Err(Unplayed::Refused(refusal)) => {
             let number = refusal.number();
             println!(rt; "refused {number}")?;
