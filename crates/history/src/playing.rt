@@ -1,5 +1,5 @@
 // A whole run.
-ghost use Rattle.std.specs.Prelude.{◌≡◌, ◌≤◌, true, [], length, vec_len, vec_capacity, MatchResult};
+ghost use Rattle.std.specs.Prelude.{◌≡◌, ◌≤◌, true, [], length, vec_len, vec_capacity, MatchResult, OnErr};
 ghost use Rattle.tables.specs.Ledgers.{is_open};
 ghost use Rattle.model.specs.Steps.{events, final};
 ghost use Rattle.bench.specs.Lent.{InOrder, SameLoans, seen, terms};
@@ -80,6 +80,7 @@ pub fn run<O: Operation, H: Home<O>, R: Victim>(
     heap: Global,
 ) -> Result<Played<O::Value>, Unplayed>
     ensures ran { MatchResult result (λ p. Ran O.Operation.algebra R.Victim.rule bench.old.ways (seen H.Home.meaning bench.old) (seen H.Home.meaning bench.new) calls.now p.answers.items p.ticket) (λ e. Spared O.Operation.algebra R.Victim.rule bench.old.ways (seen H.Home.meaning bench.old) (seen H.Home.meaning bench.new) e) }
+    ensures home { OnErr result (bench.new.home.now ≡ bench.old.home.now) }
     ensures lent { SameLoans bench.old bench.new }
 {
     makeable(bench)?;
