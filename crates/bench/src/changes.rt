@@ -2,6 +2,7 @@
 ghost use Rattle.std.specs.Prelude.{◌≡◌, ◌<◌, length, slice_set};
 
 use super::Bench;
+use super::places::set_register;
 use memory::Home;
 use operation::Operation;
 use tables::{Entry, Line, Register};
@@ -33,6 +34,6 @@ impl<'a, O: Operation, H: Home<O>, R> Bench<'a, O, H, R> {
         ensures home { self.new.home.now ≡ self.old.home.now }
         ensures lent { SameLoans self.old self.new }
     {
-        self.registers[party] = register;
+        set_register(self.registers, party, register);
     }
 }

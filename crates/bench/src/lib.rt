@@ -5,11 +5,14 @@ ghost use Rattle.std.specs.Prelude.{◌≡◌};
 ghost use Rattle.model.specs.Bench.{state};
 
 mod changes;
+mod places;
 mod reads;
 mod searches;
 
 use memory::Home;
 use operation::Operation;
+pub use places::{entry_at, is_free, line_at, register_at, set_register};
+pub use searches::{find_line, own_hit, own_line, vacant_way};
 use tables::{Entry, Ledger, Line, Register};
 
 // All that a call reads and changes, in place. Way w of party p is line p × `ways` + w: the tables are the host's, of

@@ -6,6 +6,7 @@ ghost use Rattle.tables.specs.Legal.{blank};
 ghost use Rattle.tables.specs.Lines.{is_empty};
 
 use super::Bench;
+use super::places::{entry_at, is_free, line_at, register_at};
 use operation::Operation;
 use tables::{Entry, Line, Register};
 
@@ -14,30 +15,27 @@ impl<'a, O: Operation, H, R> Bench<'a, O, H, R> {
         requires { i < length self.now.lines.now }
         ensures { result ≡ slice_index_or self.now.lines.now i Invalid }
     {
-        self.lines[i]
+        line_at(self.lines, i)
     }
 
     pub fn entry(&self, cell: usize) -> Entry
         requires { cell < length self.now.directory.now }
         ensures { result ≡ slice_index_or self.now.directory.now cell (blank 0) }
     {
-        self.directory[cell]
+        entry_at(self.directory, cell)
     }
 
     pub fn register(&self, party: usize) -> Register<O::Value, O::Partial>
         requires { party < length self.now.registers.now }
         ensures { result ≡ slice_index_or self.now.registers.now party Empty }
     {
-        self.registers[party]
+        register_at(self.registers, party)
     }
 
     // Whether the party may post: its register is Empty.
     pub fn is_free(&self, party: usize) -> bool
         ensures { result ≡ is_empty (slice_index_or self.now.registers.now party Empty) }
     {
-        match self.registers.get(party) {
-            Some(register) => register.is_empty(),
-            None => true,
-        }
+        is_free(self.registers, party)
     }
 }

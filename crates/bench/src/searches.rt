@@ -1,5 +1,5 @@
-// Searches over the ways of a party.
-ghost use Rattle.std.specs.Prelude.{◌≡◌, ◌+◌, ◌<◌, ◌≤◌, Bool, IfSome, length, position, slice_index_or};
+// Searches over the ways of a party: over a lent table of lines, and of a bench.
+ghost use Rattle.std.specs.Prelude.{◌≡◌, ◌+◌, ◌*◌, ◌<◌, ◌≤◌, Bool, IfSome, length, position, slice_index_or};
 ghost use Rattle.std.specs.Fn.{FnReturnsAt};
 ghost use Rattle.tables.specs.declared.line.Line.{Line};
 ghost use Rattle.tables.specs.declared.line.Line.TheVariants.{Invalid};
@@ -23,7 +23,7 @@ fn place_of<V: Copy, P: Copy, F: Fn(&Line<V, P>) -> bool>(
 }
 
 // The first line that is sought among `count` lines from `from` on.
-fn first_line<V: Copy, P: Copy, F: Fn(&Line<V, P>) -> bool>(
+pub fn find_line<V: Copy, P: Copy, F: Fn(&Line<V, P>) -> bool>(
     lines: &[Line<V, P>],
     from: usize,
     count: usize,
@@ -36,6 +36,44 @@ fn first_line<V: Copy, P: Copy, F: Fn(&Line<V, P>) -> bool>(
     place_of(&lines[from..from + count], sought).map(|place| from + place)
 }
 
+// The line that finishes the party's request as it stands.
+pub fn own_hit<V: Copy, P: Copy>(
+    lines: &[Line<V, P>],
+    ways: usize,
+    party: usize,
+    request: Request<V, P>,
+) -> Option<usize>
+    requires { party * ways + ways ≤ length lines.now }
+    ensures { result ≡ own_hit_in ways lines.now party request }
+{
+    find_line(lines, party * ways, ways, |line| line.hits(&request))
+}
+
+// The party's line of the cell.
+pub fn own_line<V: Copy, P: Copy>(
+    lines: &[Line<V, P>],
+    ways: usize,
+    party: usize,
+    cell: usize,
+) -> Option<usize>
+    requires { party * ways + ways ≤ length lines.now }
+    ensures { result ≡ own_line_in ways lines.now party cell }
+{
+    find_line(lines, party * ways, ways, |line| line.is_of(cell))
+}
+
+// The party's lowest Invalid way, as a line.
+pub fn vacant_way<V: Copy, P: Copy>(
+    lines: &[Line<V, P>],
+    ways: usize,
+    party: usize,
+) -> Option<usize>
+    requires { party * ways + ways ≤ length lines.now }
+    ensures { result ≡ vacant_in ways lines.now party }
+{
+    find_line(lines, party * ways, ways, |line| !line.is_held())
+}
+
 impl<'a, O: Operation, H, R> Bench<'a, O, H, R> {
     ghost use Rattle.bench.specs.Lent.{HasWays};
 
@@ -44,12 +82,7 @@ impl<'a, O: Operation, H, R> Bench<'a, O, H, R> {
         requires { HasWays self.now party }
         ensures { result ≡ own_hit_in self.now.ways self.now.lines.now party request }
     {
-        first_line(
-            self.lines,
-            party * self.ways,
-            self.ways,
-            |line| line.hits(&request),
-        )
+        own_hit(self.lines, self.ways, party, request)
     }
 
     // The party's line of the cell.
@@ -57,12 +90,7 @@ impl<'a, O: Operation, H, R> Bench<'a, O, H, R> {
         requires { HasWays self.now party }
         ensures { result ≡ own_line_in self.now.ways self.now.lines.now party cell }
     {
-        first_line(
-            self.lines,
-            party * self.ways,
-            self.ways,
-            |line| line.is_of(cell),
-        )
+        own_line(self.lines, self.ways, party, cell)
     }
 
     // The party's lowest Invalid way, as a line.
@@ -70,11 +98,6 @@ impl<'a, O: Operation, H, R> Bench<'a, O, H, R> {
         requires { HasWays self.now party }
         ensures { result ≡ vacant_in self.now.ways self.now.lines.now party }
     {
-        first_line(
-            self.lines,
-            party * self.ways,
-            self.ways,
-            |line| !line.is_held(),
-        )
+        vacant_way(self.lines, self.ways, party)
     }
 }

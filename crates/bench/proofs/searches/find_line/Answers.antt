@@ -3,7 +3,7 @@ use Rattle.std.specs.Option.{option_map}
 use Rattle.std.specs.List.{position}
 use Rattle.tables.specs.declared.line.Line.TheVariants.{Invalid}
 use Rattle.bench.proofs.Ways.{first_place}
-use Rattle.bench.proofs.searches.first_line.Goals as goal
+use Rattle.bench.proofs.searches.find_line.Goals as goal
 
 pub returns : goal.returns
 returns g c = λ test agree.

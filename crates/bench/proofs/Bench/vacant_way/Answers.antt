@@ -1,6 +1,0 @@
-use Rattle.std.proofs.Common.{rules, not}
-use Rattle.tables.specs.Lines.{is_held}
-use Rattle.bench.proofs.Bench.vacant_way.Goals as goal
-
-pub returns : goal.returns
-returns g c = c.first_line.ensures (λ l. not (is_held l)) (λ l b h. Prim.search rules)
