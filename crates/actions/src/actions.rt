@@ -9,7 +9,7 @@ ghost use Rattle.bench.specs.Lent.{SameLoans, Sendable, seen, terms};
 ghost use Rattle.answers.specs.Answers.{advanced};
 
 use super::granting::{add_holder, answer_to, new_line};
-use super::send::send_home;
+use super::send::send_line;
 use answers::Advanced;
 use bench::Bench;
 use memory::Home;
@@ -47,7 +47,7 @@ pub fn recall<O: Operation, H: Home<O>, R: Victim>(
     ensures lent { SameLoans bench.old bench.new }
 {
     give_turn(bench, cell, served);
-    send_home(bench, line);
+    send_line(bench, line);
     bench.ledger.recalls += 1;
     Advanced::Recall(line / bench.ways)
 }
@@ -68,7 +68,7 @@ pub fn evict<O: Operation, H: Home<O>, R: Victim>(
     give_turn(bench, cell, served);
     let way = bench.rule.pick(served, bench.ways);
     let picked = served * bench.ways + way;
-    send_home(bench, picked);
+    send_line(bench, picked);
     bench.ledger.evictions += 1;
     Advanced::Evict(way)
 }

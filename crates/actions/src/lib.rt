@@ -7,4 +7,4 @@ mod send;
 
 pub use actions::{evict, grant, recall};
 pub use granting::answer_to;
-pub use send::{send_home, yield_line};
+pub use send::{send_home, send_line, yield_line};
