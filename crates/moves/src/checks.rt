@@ -8,7 +8,7 @@ ghost use Rattle.moves.specs.Checks.{passes};
 use bench::Bench;
 use memory::Home;
 use operation::Operation;
-use tables::Refusal;
+use tables::{Entry, Ledger, Refusal};
 
 // A check that fails refuses the call.
 pub fn check(passed: bool, refusal: Refusal) -> Result<(), Refusal>
@@ -17,14 +17,23 @@ pub fn check(passed: bool, refusal: Refusal) -> Result<(), Refusal>
     if passed { Ok(()) } else { Err(refusal) }
 }
 
-// What every call that may reach the home checks of the bench: it is open, the home has its cells, and no count can wrap.
+// What every call that may reach the home checks of what it is lent: the ledger is open, the home has the bench's
+// cells, and no count can wrap.
+pub fn in_play_over<O: Operation, H: Home<O>>(
+    directory: &[Entry],
+    ledger: &Ledger,
+    home: &H,
+) -> Result<(), Refusal>
+    ensures { result ≡ passes (need (is_open ledger.now) LedgerClosed (need (nat_le (length directory.now) (length (H.Home.meaning home.now))) HomeTooSmall (need (counts_low ledger.now) CountTooHigh None))) }
+{
+    check(ledger.is_open(), Refusal::LedgerClosed)?;
+    check(directory.len() <= home.cells(), Refusal::HomeTooSmall)?;
+    check(ledger.counts_low(), Refusal::CountTooHigh)
+}
+
+// The same of a bench.
 pub fn in_play<O: Operation, H: Home<O>, R>(bench: &Bench<'_, O, H, R>) -> Result<(), Refusal>
     ensures { result ≡ passes (need (is_open bench.now.ledger.now) LedgerClosed (need (nat_le (length bench.now.directory.now) (length (H.Home.meaning bench.now.home.now))) HomeTooSmall (need (counts_low bench.now.ledger.now) CountTooHigh None))) }
 {
-    check(bench.ledger.is_open(), Refusal::LedgerClosed)?;
-    check(
-        bench.directory.len() <= bench.home.cells(),
-        Refusal::HomeTooSmall,
-    )?;
-    check(bench.ledger.counts_low(), Refusal::CountTooHigh)
+    in_play_over::<O, H>(bench.directory, bench.ledger, bench.home)
 }

@@ -8,7 +8,7 @@ mod post;
 mod relinquish;
 
 pub use answers::{Advanced, Posted};
-pub use checks::{check, in_play};
+pub use checks::{check, in_play, in_play_over};
 pub use collect::collect as collect_legal;
 pub use decisions::decide;
 pub use post::post as post_legal;

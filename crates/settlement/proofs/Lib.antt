@@ -1,2 +1,3 @@
 mod Filling
+pub mod Makes
 pub mod Sending

@@ -1,5 +1,5 @@
 -- Sending all lines home, one after the other, and what the checks of a settle leave to do
-use Rattle.std.proofs.Common.{◌≡◌, ℕ, suc, ◌+◌, ◌-◌, ◌*◌, ◌/◌, ◌<◌, ◌≤◌, Bool, true, false, cond, ◌&&◌, leb, List, [], ◌∷◌, length, None, Ok, Err, Option, sym, refl, ap, ◌∙◌, subst, mul-le-mul_right, arith}
+use Rattle.std.proofs.Common.{◌≡◌, ℕ, suc, ◌+◌, ◌-◌, ◌*◌, ◌/◌, ◌<◌, ◌≤◌, Bool, true, false, cond, ◌&&◌, leb, List, [], ◌∷◌, length, Some, None, Option, sym, refl, ap, ◌∙◌, subst, mul-le-mul_right, arith}
 use Rattle.operation.specs.Algebra.{Algebra}
 use Rattle.victim.specs.Rules.{Rule}
 use Rattle.tables.specs.declared.refusal.Refusal.{Refusal}
@@ -8,19 +8,18 @@ use Rattle.tables.specs.Ledgers.{is_open, counts_low}
 use Rattle.std.specs.List.{list_all}
 use Rattle.tables.specs.declared.register.Register.{Register}
 use Rattle.tables.specs.Lines.{is_held, cell_of, is_empty}
+use Rattle.tables.specs.Legal.{Legal, fits, legal}
+use Rattle.tables.proofs.Legality.{legal_true}
 use Rattle.model.specs.declared.call.Call.TheVariants.{Settle}
 use Rattle.model.specs.declared.answer.Answer.TheVariants.{Refused, Settled}
-use Rattle.model.specs.Bench.{Bench as Terms, State, line, all_empty}
-use Rattle.model.specs.Steps.{need, emptied, all_sent, close, send, yield_more, settle_if}
+use Rattle.model.specs.Bench.{Bench as Terms, State, bench, line, all_empty}
+use Rattle.model.specs.Steps.{need, step, emptied, all_sent, close, send, yield_more, settle_if, settle_refusal}
 use Rattle.model.proofs.Basics.{need_none}
 use Rattle.model.proofs.Tabled.{Tabled}
 use Rattle.model.proofs.TabledMoves.{tabled_send}
 use Rattle.model.proofs.Directory.{owns_div}
 use Rattle.model.proofs.Decisions.{below}
-use Rattle.bench.specs.declared.Bench.{Bench}
-use Rattle.bench.specs.Lent.{InOrder, seen, stepped, terms}
-use Rattle.moves.specs.Checks.{passes}
-use Rattle.moves.proofs.Calls.{passed, failed, rest_of}
+use Rattle.moves.proofs.Calls.{entered}
 
 module _ {V P R : Type 0} (k : Terms V P R) where
   -- the next line is sent first
@@ -68,25 +67,26 @@ all_empty_tested (r ∷ rs) = go (is_empty r) (all_empty_tested rs)
     go true e = e
     go false e = refl
 
-module _ {O H R V P : Type 0} (op : Algebra V P) (victim : Rule R) (meaning : H → List V) (b : Bench O H R V P) (ok : InOrder b) where
+module _ {V P R : Type 0} (op : Algebra V P) (victim : Rule R) (ways : ℕ) (s : State V P R)
+    (sizes : fits ways s.lines s.directory s.registers ≡ true) (ok : Legal ways s.lines s.directory s.registers) where
   abbrev k : Terms V P R
-  k = terms op victim meaning b
-
-  abbrev s : State V P R
-  s = seen meaning b
+  k = bench op victim ways s
 
   -- the checks that are left to a settle
   abbrev pub settle_rest : Option Refusal
   settle_rest = need (is_open s.ledger) LedgerClosed (need (leb (length s.directory) (length s.home)) HomeTooSmall (need (counts_low s.ledger) CountTooHigh (need (all_empty s.registers) Unfinished None)))
 
-  pub settle_refused : (n : Refusal) → Err n ≡ passes settle_rest → stepped op victim meaning b Settle ≡ (s, Refused n)
-  settle_refused n e = ap (λ z. settle_if k z s) (rest_of op victim meaning b ok settle_rest ∙ failed settle_rest n e)
+  settle_is : settle_refusal k s ≡ settle_rest
+  settle_is = entered (fits ways s.lines s.directory s.registers) (legal ways s.lines s.directory s.registers) settle_rest sizes (legal_true ways s.lines s.directory s.registers ok)
 
-  pub settle_passed : Ok tt ≡ passes settle_rest → stepped op victim meaning b Settle ≡ (close k (all_sent k 0 (length s.registers * b.ways) s), Settled)
-  settle_passed e = ap (λ z. settle_if k z s) (rest_of op victim meaning b ok settle_rest ∙ passed settle_rest e)
+  pub settle_refused : (n : Refusal) → settle_rest ≡ Some n → step k s Settle ≡ (s, Refused n)
+  settle_refused n e = ap (λ z. settle_if k z s) (settle_is ∙ e)
 
-  pub settle_facts : Ok tt ≡ passes settle_rest → counts_low s.ledger ≡ true
+  pub settle_passed : settle_rest ≡ None → step k s Settle ≡ (close k (all_sent k 0 (length s.registers * ways) s), Settled)
+  settle_passed e = ap (λ z. settle_if k z s) (settle_is ∙ e)
+
+  pub settle_facts : settle_rest ≡ None → counts_low s.ledger ≡ true
   settle_facts e =
-      let e3 = need_none (is_open s.ledger) LedgerClosed _ (passed settle_rest e) in
+      let e3 = need_none (is_open s.ledger) LedgerClosed _ e in
       let e4 = need_none (leb (length s.directory) (length s.home)) HomeTooSmall _ e3.1 in
       (need_none (counts_low s.ledger) CountTooHigh _ e4.1).0

@@ -1,16 +1,18 @@
-use Rattle.std.proofs.Common.{sym, subst}
+use Rattle.std.proofs.Common.{refl, sym, subst}
 use Rattle.operation.proofs.Lawful.{lawful}
-use Rattle.model.specs.Steps.{make_refusal}
 use Rattle.model.proofs.Runs.{made_inv}
 use Rattle.model.proofs.Tabled.{Tabled}
 use Rattle.bench.specs.Lent.{seen, terms}
 use Rattle.bench.proofs.Orders.{ordered, sound}
-use Rattle.moves.proofs.Calls.{passed}
+use Rattle.settlement.proofs.Makes.{accepted}
 use Rattle.settlement.proofs.making.make.Goals as goal
 
 pub returns-clause-in_order : goal.returns-clause-in_order
-returns-clause-in_order g c = λ accepted.
-    let k = terms g.O.Operation.algebra g.R.Victim.rule g.H.Home.meaning c.args.bench.now in
-    let s = seen g.H.Home.meaning c.args.bench.now in
-    let ok = passed (make_refusal k s) c.in_ok-makeable.ensures in
-    ordered g.O.Operation.algebra g.R.Victim.rule g.H.Home.meaning c.args.bench.now _ c.renew.ensures.lent.ways (subst (Tabled k) (sym c.renew.ensures.state) (made_inv k (sound g.O.Operation.algebra g.R.Victim.rule g.H.Home.meaning c.args.bench.now (lawful g.met.O.Operation) g.met.R.Victim.within) s ok).tabled)
+returns-clause-in_order g c = λ said.
+    let op = g.O.Operation.algebra in
+    let rule = g.R.Victim.rule in
+    let meaning = g.H.Home.meaning in
+    let k = terms op rule meaning c.args.bench.now in
+    let s = seen meaning c.args.bench.now in
+    let made = accepted k s c.make_over.result said c.make_over.ensures.answer c.make_over.ensures.state in
+    ordered op rule meaning c.args.bench.now _ refl (subst (Tabled k) (sym made.1) (made_inv k (sound op rule meaning c.args.bench.now (lawful g.met.O.Operation) g.met.R.Victim.within) s made.0).tabled)
