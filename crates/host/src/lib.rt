@@ -5,5 +5,5 @@
 mod ending;
 mod playing;
 
-pub use ending::{Ending, end};
+pub use ending::{Ending, end, end_over};
 pub use playing::{play_one, play_slotted};

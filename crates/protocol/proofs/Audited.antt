@@ -9,8 +9,8 @@ use Rattle.audit.specs.Audit.{audited}
 use Rattle.model.specs.declared.call.Call.{Call}
 use Rattle.model.specs.declared.call.Call.TheVariants.{Post, Advance, Collect, Yield, Settle}
 use Rattle.model.specs.declared.answer.Answer.TheVariants.{Refused}
-use Rattle.model.specs.Bench.{Bench as Terms, State}
-use Rattle.model.specs.Steps.{need, post_if, advance_if, collect_if, yield_if, settle_if}
+use Rattle.model.specs.Bench.{Bench as Terms, State, bench}
+use Rattle.model.specs.Steps.{need, step, post_if, advance_if, collect_if, yield_if, settle_if}
 use Rattle.bench.specs.declared.Bench.{Bench}
 use Rattle.bench.specs.Lent.{seen, stepped, terms}
 
@@ -20,6 +20,17 @@ first_two true true n o e = absurd (let z : ◌≡◌ {A = ℕ} 0 1 = cc in omeg
 first_two true false n o e = let z : n ≡ Illegal = cc in ap Some (sym z)
 first_two false y n o e = let z : n ≡ Sizes = cc in ap Some (sym z)
 
+module _ {V P R : Type 0} (op : Algebra V P) (victim : Rule R) (ways : ℕ) (s : State V P R) where
+  abbrev k : Terms V P R
+  k = bench op victim ways s
+
+  pub audit_refused_over : (c : Call V P) (n : Refusal) → ◌≡◌ {A = Result (Unit {0}) Refusal} (Err n) (audited ways s.lines s.directory s.registers) → step k s c ≡ (s, Refused n)
+  audit_refused_over (Post p r) n e = ap (λ z. post_if k z s p r) (first_two (fits ways s.lines s.directory s.registers) (legal ways s.lines s.directory s.registers) n _ e)
+  audit_refused_over (Advance a) n e = ap (λ z. advance_if k z s a) (first_two (fits ways s.lines s.directory s.registers) (legal ways s.lines s.directory s.registers) n _ e)
+  audit_refused_over (Collect p) n e = ap (λ z. collect_if k z s p) (first_two (fits ways s.lines s.directory s.registers) (legal ways s.lines s.directory s.registers) n _ e)
+  audit_refused_over (Yield p a) n e = ap (λ z. yield_if k z s p a) (first_two (fits ways s.lines s.directory s.registers) (legal ways s.lines s.directory s.registers) n _ e)
+  audit_refused_over Settle n e = ap (λ z. settle_if k z s) (first_two (fits ways s.lines s.directory s.registers) (legal ways s.lines s.directory s.registers) n _ e)
+
 module _ {O H R V P : Type 0} (op : Algebra V P) (victim : Rule R) (meaning : H → List V) (b : Bench O H R V P) where
   abbrev k : Terms V P R
   k = terms op victim meaning b
@@ -28,8 +39,4 @@ module _ {O H R V P : Type 0} (op : Algebra V P) (victim : Rule R) (meaning : H 
   s = seen meaning b
 
   pub audit_refused : (c : Call V P) (n : Refusal) → ◌≡◌ {A = Result (Unit {0}) Refusal} (Err n) (audited b.ways s.lines s.directory s.registers) → stepped op victim meaning b c ≡ (s, Refused n)
-  audit_refused (Post p r) n e = ap (λ z. post_if k z s p r) (first_two (fits b.ways s.lines s.directory s.registers) (legal b.ways s.lines s.directory s.registers) n _ e)
-  audit_refused (Advance a) n e = ap (λ z. advance_if k z s a) (first_two (fits b.ways s.lines s.directory s.registers) (legal b.ways s.lines s.directory s.registers) n _ e)
-  audit_refused (Collect p) n e = ap (λ z. collect_if k z s p) (first_two (fits b.ways s.lines s.directory s.registers) (legal b.ways s.lines s.directory s.registers) n _ e)
-  audit_refused (Yield p a) n e = ap (λ z. yield_if k z s p a) (first_two (fits b.ways s.lines s.directory s.registers) (legal b.ways s.lines s.directory s.registers) n _ e)
-  audit_refused Settle n e = ap (λ z. settle_if k z s) (first_two (fits b.ways s.lines s.directory s.registers) (legal b.ways s.lines s.directory s.registers) n _ e)
+  audit_refused c n e = audit_refused_over op victim b.ways s c n e

@@ -3,7 +3,9 @@
 #![tactic(auto)]
 
 mod calls;
+mod over;
 
 pub use bench::Bench;
 pub use calls::{advance, collect, post, relinquish, settle};
-pub use settlement::{Ticket, Unsettled, abandon, abandon_bench, make};
+pub use over::{collect_over, post_over, settle_over};
+pub use settlement::{Ticket, Unsettled, abandon, abandon_bench, make, make_over};

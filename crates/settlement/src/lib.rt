@@ -8,6 +8,6 @@ mod settling;
 mod ticket;
 
 pub use ending::{abandon, abandon_bench};
-pub use making::{make, make_over, makeable};
+pub use making::{make, make_over, makeable, makeable_over};
 pub use settling::{settle_legal, settle_legal_over};
 pub use ticket::{Ticket, Unsettled};

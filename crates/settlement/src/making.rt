@@ -32,7 +32,7 @@ fn clear<T: Copy>(table: &mut [T], value: T)
 }
 
 // Whether a bench can be made over tables of these sizes and the home.
-pub fn makeable<O: Operation, H: Home<O>>(
+pub fn makeable_over<O: Operation, H: Home<O>>(
     lines: &[Line<O::Value, O::Partial>],
     directory: &[Entry],
     registers: &[Register<O::Value, O::Partial>],
@@ -44,6 +44,19 @@ pub fn makeable<O: Operation, H: Home<O>>(
     let fit = sizes_fit(lines, directory, registers, ways);
     check(fit, Refusal::Sizes)?;
     check(directory.len() <= home.cells(), Refusal::HomeTooSmall)
+}
+
+// The same of a bench.
+pub fn makeable<O: Operation, H: Home<O>, R>(bench: &Bench<'_, O, H, R>) -> Result<(), Refusal>
+    ensures { result ≡ passes (need (fits bench.now.ways bench.now.lines.now bench.now.directory.now bench.now.registers.now) Sizes (need (nat_le (length bench.now.directory.now) (length (H.Home.meaning bench.now.home.now))) HomeTooSmall None)) }
+{
+    makeable_over::<O, H>(
+        bench.lines,
+        bench.directory,
+        bench.registers,
+        bench.home,
+        bench.ways,
+    )
 }
 
 // The tables and the ledger of a new bench; nobody was granted yet, and the highest party stands for that.
@@ -83,7 +96,7 @@ pub fn make_over<O: Operation, H: Home<O>, R: Victim>(
     ensures state { state lines.new directory.new registers.new ledger.new rule.now (H.Home.meaning home.now) ≡ made_or (issued result) (bench O.Operation.algebra R.Victim.rule ways (state lines.old directory.old registers.old ledger.old rule.now (H.Home.meaning home.now))) (state lines.old directory.old registers.old ledger.old rule.now (H.Home.meaning home.now)) }
     ensures legal { is_ok result ≡ true → Legal ways lines.new directory.new registers.new }
 {
-    makeable::<O, H>(lines, directory, registers, home, ways)?;
+    makeable_over::<O, H>(lines, directory, registers, home, ways)?;
     renew(lines, directory, registers, ledger);
     Ok(Ticket::issue())
 }

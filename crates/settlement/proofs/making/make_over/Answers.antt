@@ -13,18 +13,18 @@ use Rattle.settlement.specs.Makes.{issued, made_or}
 use Rattle.settlement.proofs.Makes.{make_leaves, make_legal, not_ok}
 use Rattle.settlement.proofs.making.make_over.Goals as goal
 
-pub returns-in_err-makeable : goal.returns-in_err-makeable
-returns-in_err-makeable g c =
+pub returns-in_err-makeable_over : goal.returns-in_err-makeable_over
+returns-in_err-makeable_over g c =
     let op = g.O.Operation.algebra in
     let rule = g.R.Victim.rule in
     let ways = c.args.ways in
     let s = state c.args.lines.now c.args.directory.now c.args.registers.now c.args.ledger.now c.args.rule.now (g.H.Home.meaning c.args.home.now) in
     let k = bench op rule ways s in
     let p = err_from_is_err_and c.from_residual.result c.from_residual.ensures.1 in
-    let n = c.in_err-makeable.field-0.0 in
+    let n = c.in_err-makeable_over.field-0.0 in
     let said = ap issued p.1 ∙ ap Some p.2 in
     record {
-      answer = said ∙ sym (failed (make_refusal k s) n c.in_err-makeable.ensures);
+      answer = said ∙ sym (failed (make_refusal k s) n c.in_err-makeable_over.ensures);
       state = sym (ap (λ o. made_or o k s) said);
       legal = λ e. not_ok (ap is_ok p.1) e;
     }
@@ -35,7 +35,7 @@ renew-requires g c =
     let rule = g.R.Victim.rule in
     let ways = c.args.ways in
     let s = state c.args.lines.now c.args.directory.now c.args.registers.now c.args.ledger.now c.args.rule.now (g.H.Home.meaning c.args.home.now) in
-    let ok = passed (make_refusal (bench op rule ways s) s) c.in_ok-makeable.ensures in
+    let ok = passed (make_refusal (bench op rule ways s) s) c.in_ok-makeable_over.ensures in
     (limits_of op rule ways s (need_none (fits ways s.lines s.directory s.registers) Sizes _ ok).0).0.parties_low
 
 pub returns : goal.returns
@@ -45,7 +45,7 @@ returns g c =
     let ways = c.args.ways in
     let s = state c.args.lines.now c.args.directory.now c.args.registers.now c.args.ledger.now c.args.rule.now (g.H.Home.meaning c.args.home.now) in
     let k = bench op rule ways s in
-    let ok = passed (make_refusal k s) c.in_ok-makeable.ensures in
+    let ok = passed (make_refusal k s) c.in_ok-makeable_over.ensures in
     let sized = sym (need_none (fits ways s.lines s.directory s.registers) Sizes _ ok).0 in
     let new = c.renew.ensures in
     let end = make_leaves op rule ways s sized new.lines new.directory new.registers new.ledger in
