@@ -14,7 +14,7 @@ pub returns-in_default-clause-answer : goal.returns-in_default-clause-answer
 returns-in_default-clause-answer g c =
     let s = seen g.H.Home.meaning c.args.bench.now in
     let open_none = sym (ap held c.in_default.is) ∙ c.requires.held in
-    let st = settle_refused g.O.Operation.algebra g.R.Victim.rule c.args.bench.now.ways s c.requires.in_order.sizes c.requires.in_order.legal LedgerClosed (ap (λ b. need b LedgerClosed (need (leb (length s.directory) (length s.home)) HomeTooSmall (need (counts_low s.ledger) CountTooHigh (need (all_empty s.registers) Unfinished None)))) open_none) in
+    let st = settle_refused g.O.Operation.algebra g.R.Victim.rule c.args.bench.now.ways s c.requires.in_order.sizes c.requires.in_order.legal LedgerClosed (ap (λ b. need b LedgerClosed (need (leb (length s.directory) (length s.home)) HomeTooSmall (need (counts_low s.ledger) CountTooHigh (need (all_empty s.registers) Unfinished None)))) (sym open_none)) in
     sym (ap (λ z. z.1) st)
 
 pub returns-in-Err-clause-held : goal.returns-in-Err-clause-held
