@@ -3,13 +3,12 @@ use super::calls::answer;
 use super::cases::{
     Step, a_hit, a_late_update, a_read, a_yield, an_eviction, one_update, two_updates,
 };
-use super::texts::{Held, Reply};
+use super::texts::{Held, Reply, Said};
 use memory::{Home, PlainCells};
 use operation::{Count, Total};
 use protocol::{Bench, abandon_bench, make};
 use tables::{Entry, Ledger, Line, Register, Status};
 use victim::Rotate;
-use wording::answer_text;
 
 pub fn play_all(rt: &HostRuntime) -> anyhow::Result<()> {
     let heap = rt.alloc();
@@ -76,8 +75,8 @@ fn take_step(
 ) -> anyhow::Result<()> {
     match step {
         Step::Call(call) => {
-            let text = answer_text::<Total>(answer(bench, call), rt.alloc())?;
-            println!(rt; "{call}: {text}")?;
+            let answer = Said(answer(bench, call));
+            println!(rt; "{call}: {answer}")?;
         }
         Step::Home => show_home(rt, bench.home)?,
         Step::Lines => show_lines(rt, bench)?,

@@ -1,5 +1,9 @@
 // Calls and lines as text: what is printed of a case.
+ghost use Rattle.std.specs.Prelude.{Some, decimal};
+ghost use Rattle.wording.specs.Answers.{said};
+
 use super::calls::Call;
+use model::Answer;
 use operation::{Count, Delta};
 use std::fmt;
 use tables::{Line, Request};
@@ -34,6 +38,36 @@ impl fmt::Display for Asked {
                 let by = partial.get();
                 write!(f, "update {cell} by {by}")
             }
+        }
+    }
+}
+
+// An answer, to be printed as it stands: no memory is asked for, so no answer is lost for want of it once its call is made.
+#[derive(Drop)]
+pub struct Said(pub Answer<Count>);
+
+impl fmt::Display for Said {
+    ghost output = { λ s. Some (said (λ count. decimal count.bits) s.0) };
+
+    fn fmt<W: fmt::Write>(&self, f: &mut fmt::Formatter<W>) -> fmt::Result {
+        match &self.0 {
+            Answer::Refused(refusal) => {
+                let number = refusal.number();
+                write!(f, "refused {number}")
+            }
+            Answer::Hit => f.write_str("hit"),
+            Answer::Queued => f.write_str("queued"),
+            Answer::Idle => f.write_str("idle"),
+            Answer::Recall(party) => write!(f, "recall {party}"),
+            Answer::Evict(way) => write!(f, "evict {way}"),
+            Answer::Grant(party) => write!(f, "grant {party}"),
+            Answer::Collected(Some(value)) => {
+                let value = value.get();
+                write!(f, "value {value}")
+            }
+            Answer::Collected(None) => f.write_str("done"),
+            Answer::Yielded => f.write_str("yielded"),
+            Answer::Settled => f.write_str("settled"),
         }
     }
 }

@@ -14,7 +14,7 @@ use operation::{Count, Delta, Flags, Operation, Pair, Peak, Total};
 use protocol::{Bench, abandon_bench};
 use std::process::ExitCode;
 use victim::{Oldest, Rotate, Victim};
-use wording::{answer_text, tally_text};
+use wording::{Tally, answer_text};
 use workbench::{Workbench, row_of};
 
 fn print_answers<O: Shown>(rt: &HostRuntime, answers: &[Answer<O::Value>]) -> anyhow::Result<()> {
@@ -67,7 +67,7 @@ fn play<O: Shown, H: Home<O> + Drop, R: Victim + Drop>(
                 println!(rt; "left {left}")?;
             }
             print_answers::<O>(rt, answers.as_slice())?;
-            let tally = tally_text(bench.ledger, rt.alloc())?;
+            let tally = Tally(*bench.ledger);
             println!(rt; "{tally}")?;
             print_cells::<O, H>(rt, bench.home)
         }

@@ -12,12 +12,12 @@ use plays::{End, as_one_run, call_by_call};
 use std::env;
 use std::process::ExitCode;
 use std::time::{Duration, Instant};
-use wording::tally_text;
+use wording::Tally;
 
 const FEW: usize = 3000;
 
 fn print_ends(rt: &HostRuntime, calls: usize, a: &End, b: &End) -> anyhow::Result<()> {
-    let tally = tally_text(&a.ledger, rt.alloc())?;
+    let tally = Tally(a.ledger);
     println!(rt; "calls {calls}")?;
     println!(rt; "{tally}")?;
     let same = if a == b { "the same" } else { "different" };

@@ -1,12 +1,13 @@
 // The answers and the counts of a bench in words, as programs print them.
 #![tactic(auto)]
 
-ghost use Rattle.std.specs.Prelude.{◌≡◌, IfOk, string_bytes};
+ghost use Rattle.std.specs.Prelude.{◌≡◌, Some, IfOk, string_bytes};
 ghost use Rattle.wording.specs.Answers.{said, tally};
 
 use model::Answer;
 use notation::Shown;
 use std::alloc::{AllocError, Global};
+use std::fmt;
 use tables::Ledger;
 
 #[cfg(test)]
@@ -38,19 +39,32 @@ pub fn answer_text<O: Shown>(answer: Answer<O::Value>, heap: Global) -> Result<S
     }
 }
 
-// What a ledger has counted.
+// A ledger's counts, to be printed as they stand: no memory is asked for.
+#[derive(Clone, Copy)]
+pub struct Tally(pub Ledger);
+
+impl fmt::Display for Tally {
+    ghost output = { λ t. Some (tally t.0) };
+
+    fn fmt<W: fmt::Write>(&self, f: &mut fmt::Formatter<W>) -> fmt::Result {
+        let Ledger {
+            hits,
+            grants,
+            recalls,
+            evictions,
+            yields,
+            ..
+        } = self.0;
+        write!(f,
+            "tally hits {hits} grants {grants} recalls {recalls} evictions {evictions} yields {yields}"
+        )
+    }
+}
+
+// The same as a text.
 pub fn tally_text(ledger: &Ledger, heap: Global) -> Result<String, AllocError>
     ensures { IfOk result (λ s. string_bytes s ≡ tally ledger.now) }
 {
-    let Ledger {
-        hits,
-        grants,
-        recalls,
-        evictions,
-        yields,
-        ..
-    } = *ledger;
-    format!(in heap;
-        "tally hits {hits} grants {grants} recalls {recalls} evictions {evictions} yields {yields}"
-    )
+    let counts = Tally(*ledger);
+    format!(in heap; "{counts}")
 }
