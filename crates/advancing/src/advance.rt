@@ -57,6 +57,25 @@ fn advance_checks<O: Operation, H: Home<O>, R>(
     check(cell < bench.directory.len(), Refusal::NoSuchCell)
 }
 
+// What the advance does next. (Asked of a bench that is lent to be read: the check does not cover the tables of one that is
+// lent to be changed being lent on as slices to read.)
+fn next_action<O: Operation, H, R>(
+    bench: &Bench<'_, O, H, R>,
+    cell: usize,
+) -> Next<O::Value, O::Partial>
+    requires in_order { InOrder bench.now }
+    requires within { cell < length bench.now.directory.now }
+    ensures { result ≡ decided (length bench.now.registers.now) bench.now.ways bench.now.lines.now bench.now.directory.now bench.now.registers.now cell }
+{
+    decide::<O>(
+        bench.lines,
+        bench.directory,
+        bench.registers,
+        bench.ways,
+        cell,
+    )
+}
+
 // Serves the party that has the cell's turn, or else the next that waits, by one action.
 pub fn advance<O: Operation, H: Home<O>, R: Victim>(
     bench: &mut Bench<'_, O, H, R>,
@@ -69,6 +88,6 @@ pub fn advance<O: Operation, H: Home<O>, R: Victim>(
     ensures lent { SameLoans bench.old bench.new }
 {
     advance_checks(bench, cell)?;
-    let next = decide(bench, cell);
+    let next = next_action(bench, cell);
     perform(bench, cell, next)
 }

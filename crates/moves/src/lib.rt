@@ -10,6 +10,6 @@ mod relinquish;
 pub use answers::{Advanced, Posted};
 pub use checks::{check, in_play, in_play_over};
 pub use collect::collect as collect_legal;
-pub use decisions::decide;
+pub use decisions::{decide, find_line};
 pub use post::post as post_legal;
 pub use relinquish::relinquish as relinquish_legal;

@@ -2,4 +2,4 @@ use Rattle.model.proofs.Sized.{ways_within}
 use Rattle.decisions.proofs.decision.decide_for.Goals as goal
 
 pub vacant_way-requires : goal.vacant_way-requires
-vacant_way-requires g c = (ways_within g.O.Operation.algebra c.args.bench.now.ways c.args.bench.now.lines.now c.args.bench.now.directory.now c.args.bench.now.registers.now c.requires.in_order.sizes c.args.party c.requires.within.1).0
+vacant_way-requires g c = (ways_within g.O.Operation.algebra c.args.ways c.args.lines.now c.args.directory.now c.args.registers.now c.requires.sizes c.args.party c.requires.within.1).0

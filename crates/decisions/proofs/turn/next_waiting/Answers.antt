@@ -6,9 +6,9 @@ use Rattle.decisions.proofs.turn.next_waiting.Goals as goal
 pub round-preserved : goal.round-preserved
 round-preserved g c = (
   omega arith,
-  onward c.args.bench.now.registers.now c.args.cell c.args.last c.round.passed (omega arith) (sym (c.if-waits_for.ensures ∙ ap (waits_for c.args.cell) c.register.ensures)) c.round.invariant.1,
+  onward c.args.registers.now c.args.cell c.args.last c.round.passed (omega arith) (sym (c.if-waits_for.ensures ∙ ap (waits_for c.args.cell) c.register_at.ensures)) c.round.invariant.1,
 )
 
 pub returns-then-waits_for : goal.returns-then-waits_for
 returns-then-waits_for g c =
-    found c.args.bench.now.registers.now c.args.cell c.args.last c.round.passed (omega arith) (sym (c.if-waits_for.ensures ∙ ap (waits_for c.args.cell) c.register.ensures)) c.round.invariant.1
+    found c.args.registers.now c.args.cell c.args.last c.round.passed (omega arith) (sym (c.if-waits_for.ensures ∙ ap (waits_for c.args.cell) c.register_at.ensures)) c.round.invariant.1
