@@ -9,7 +9,7 @@ mod relinquish;
 
 pub use answers::{Advanced, Posted};
 pub use checks::{check, in_play, in_play_over};
-pub use collect::collect as collect_legal;
+pub use collect::{collect as collect_legal, collect_over as collect_legal_over};
 pub use decisions::{decide, find_line};
-pub use post::post as post_legal;
+pub use post::{post as post_legal, post_over as post_legal_over};
 pub use relinquish::relinquish as relinquish_legal;

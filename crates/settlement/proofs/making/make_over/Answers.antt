@@ -8,7 +8,7 @@ use Rattle.model.specs.Steps.{make_refusal}
 use Rattle.model.proofs.Basics.{need_none}
 use Rattle.model.proofs.Sized.{limits_of}
 use Rattle.moves.proofs.Calls.{passed, failed}
-use Rattle.bench.proofs.Tables.{sound}
+use Rattle.moves.proofs.Sounds.{sound}
 use Rattle.settlement.specs.Makes.{issued, made_or}
 use Rattle.settlement.proofs.Makes.{make_leaves, make_legal, not_ok}
 use Rattle.settlement.proofs.making.make_over.Goals as goal

@@ -10,8 +10,8 @@ use Rattle.model.specs.Bench.{State, bench, state}
 use Rattle.model.specs.Steps.{need, close}
 use Rattle.settlement.specs.Tried.{tried}
 use Rattle.moves.specs.Checks.{passes}
-use Rattle.bench.proofs.Tables.{sound, stays_legal}
-use Rattle.moves.proofs.Calls.{passed, failed}
+use Rattle.moves.proofs.Sounds.{sound}
+use Rattle.moves.proofs.Calls.{passed, failed, stays_legal}
 use Rattle.settlement.proofs.Sending.{settle_rest, settle_refused, settle_passed, settle_facts}
 use Rattle.settlement.proofs.settling.settle_tables.Goals as goal
 
