@@ -21,20 +21,17 @@ first_two true false n o e = let z : n ≡ Illegal = cc in ap Some (sym z)
 first_two false y n o e = let z : n ≡ Sizes = cc in ap Some (sym z)
 
 module _ {V P R : Type 0} (op : Algebra V P) (victim : Rule R) (ways : ℕ) (s : State V P R) where
-  abbrev k : Terms V P R
-  k = bench op victim ways s
+  abbrev over : Terms V P R
+  over = bench op victim ways s
 
-  pub audit_refused_over : (c : Call V P) (n : Refusal) → ◌≡◌ {A = Result (Unit {0}) Refusal} (Err n) (audited ways s.lines s.directory s.registers) → step k s c ≡ (s, Refused n)
-  audit_refused_over (Post p r) n e = ap (λ z. post_if k z s p r) (first_two (fits ways s.lines s.directory s.registers) (legal ways s.lines s.directory s.registers) n _ e)
-  audit_refused_over (Advance a) n e = ap (λ z. advance_if k z s a) (first_two (fits ways s.lines s.directory s.registers) (legal ways s.lines s.directory s.registers) n _ e)
-  audit_refused_over (Collect p) n e = ap (λ z. collect_if k z s p) (first_two (fits ways s.lines s.directory s.registers) (legal ways s.lines s.directory s.registers) n _ e)
-  audit_refused_over (Yield p a) n e = ap (λ z. yield_if k z s p a) (first_two (fits ways s.lines s.directory s.registers) (legal ways s.lines s.directory s.registers) n _ e)
-  audit_refused_over Settle n e = ap (λ z. settle_if k z s) (first_two (fits ways s.lines s.directory s.registers) (legal ways s.lines s.directory s.registers) n _ e)
+  pub audit_refused_over : (c : Call V P) (n : Refusal) → ◌≡◌ {A = Result (Unit {0}) Refusal} (Err n) (audited ways s.lines s.directory s.registers) → step over s c ≡ (s, Refused n)
+  audit_refused_over (Post p r) n e = ap (λ z. post_if over z s p r) (first_two (fits ways s.lines s.directory s.registers) (legal ways s.lines s.directory s.registers) n _ e)
+  audit_refused_over (Advance a) n e = ap (λ z. advance_if over z s a) (first_two (fits ways s.lines s.directory s.registers) (legal ways s.lines s.directory s.registers) n _ e)
+  audit_refused_over (Collect p) n e = ap (λ z. collect_if over z s p) (first_two (fits ways s.lines s.directory s.registers) (legal ways s.lines s.directory s.registers) n _ e)
+  audit_refused_over (Yield p a) n e = ap (λ z. yield_if over z s p a) (first_two (fits ways s.lines s.directory s.registers) (legal ways s.lines s.directory s.registers) n _ e)
+  audit_refused_over Settle n e = ap (λ z. settle_if over z s) (first_two (fits ways s.lines s.directory s.registers) (legal ways s.lines s.directory s.registers) n _ e)
 
 module _ {O H R V P : Type 0} (op : Algebra V P) (victim : Rule R) (meaning : H → List V) (b : Bench O H R V P) where
-  abbrev k : Terms V P R
-  k = terms op victim meaning b
-
   abbrev s : State V P R
   s = seen meaning b
 
