@@ -9,7 +9,7 @@ use super::texts::{answer_lines, cell_lines};
 use layering::{Call, Counts};
 use memory::Combining;
 use notation::Notation;
-use piles::{Bare, Pile, play_on};
+use piles::{Bare, Outcome, Pile, play_on};
 use std::alloc::{AllocError, Global};
 
 // A play as it is printed.
@@ -65,7 +65,16 @@ fn played<O: Notation, P: Pile<O>>(
 {
     let mut row = Vec::new(heap);
     row.resize(cells, value)?;
-    let outcome = play_on::<O, P>(row, calls, heap)?;
+    printed::<O>(play_on::<O, P>(row, calls, heap)?, heap)
+}
+
+// What reached the cells stands beside the sheet, since piles that agree differ in it.
+fn printed<O: Notation>(
+    outcome: Outcome<O::Value>,
+    heap: Global,
+) -> Result<(Sheet, Counts), AllocError>
+    ensures { IfOk result (λ p. (string_bytes p.0.answers ≡ answer_lines O.Shown.shown outcome.answers.items) × (string_bytes p.0.cells ≡ cell_lines O.Shown.shown outcome.values.items) × (p.1 ≡ outcome.reached)) }
+{
     let sheet = Sheet {
         answers: answer_lines::<O>(outcome.answers.as_slice(), heap)?,
         cells: cell_lines::<O>(outcome.values.as_slice(), heap)?,

@@ -33,14 +33,7 @@ pub fn play_on<O: Operation, P: Pile<O>>(
 {
     let mut pile = P::on_row(row);
     let answers = play(&mut pile, calls, heap)?;
-    // The cells are read once nothing counts any more.
-    let (mut cells, reached) = pile.drained().into_parts();
-    let values = values(&mut cells, heap)?;
-    Ok(Outcome {
-        answers,
-        reached,
-        values,
-    })
+    settled(answers, pile.drained(), heap)
 }
 
 // The values of a home, place by place.
@@ -61,4 +54,21 @@ pub fn values<O: Operation, H: Home<O>>(
         values.push_reserved(value);
     }
     Ok(values)
+}
+
+// The cells are read once nothing counts any more.
+fn settled<O: Operation>(
+    answers: Vec<Answer<O::Value>>,
+    bottom: Bare<O>,
+    heap: Global,
+) -> Result<Outcome<O::Value>, AllocError>
+    ensures { IfOk result (λ p. (p.answers ≡ answers) × (p.reached ≡ bottom.counts) × (p.values.items ≡ counted bottom.below.row.items)) }
+{
+    let (mut cells, reached) = bottom.into_parts();
+    let values = values(&mut cells, heap)?;
+    Ok(Outcome {
+        answers,
+        reached,
+        values,
+    })
 }
