@@ -7,10 +7,11 @@
 --   answer_lines  the answers to all calls
 --   cell_line     a cell's place and value, unless that is 0
 --   cell_lines    the cells that are not 0
-use Rattle.std.specs.Prelude.{ℕ, ◌+◌, ◌-◌, ◌^◌, min, cond, List, [], ◌∷◌, ◌++◌, Some, None, Ok, Err, codes, decimal}
+use Rattle.std.specs.Prelude.{ℕ, ◌+◌, ◌-◌, ◌^◌, min, cond, List, [], ◌∷◌, ◌++◌, codes, decimal}
 use Rattle.std.specs.Str.{bytes_eq}
 use Rattle.memory.specs.Homes.{number_of}
-use Rattle.layering.specs.Plays.{Answer}
+use Rattle.layering.specs.declared.Answer.{Answer}
+use Rattle.layering.specs.declared.Answer.TheVariants.{Value, Done, Refused}
 
 abbrev pub line_number : ℕ → ℕ
 line_number before = min (before + 2) (2 ^ 64 - 1)
@@ -24,9 +25,9 @@ lines_from line i (x ∷ xs) = line i x ++ lines_from line (i + 1) xs
 
 module _ {V : Type 0} (shown : V → List ℕ) where
   abbrev pub said : Answer V → List ℕ
-  said (Ok (Some v)) = shown v
-  said (Ok None) = codes "done"
-  said (Err e) = codes "refused " ++ decimal (number_of e)
+  said (Value v) = shown v
+  said Done = codes "done"
+  said (Refused e) = codes "refused " ++ decimal (number_of e)
 
   abbrev pub answer_line : ℕ → Answer V → List ℕ
   answer_line before a = numbered (line_number before) (said a)

@@ -39,9 +39,9 @@ fn answer_text<O: Shown>(answer: Answer<O::Value>, heap: Global) -> Result<Strin
     ensures { IfOk result (λ s. string_bytes s ≡ said O.Shown.shown answer) }
 {
     match answer {
-        Ok(Some(value)) => O::show(value, heap),
-        Ok(None) => String::from_str(heap, "done"),
-        Err(refusal) => {
+        Answer::Value(value) => O::show(value, heap),
+        Answer::Done => String::from_str(heap, "done"),
+        Answer::Refused(refusal) => {
             let number = refusal.number();
             format!(in heap; "refused {number}")
         }

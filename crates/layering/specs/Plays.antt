@@ -1,5 +1,4 @@
 -- The words of a play: what a list of values answers to calls, and what they leave of it
---   Answer     what a call may answer
 --   answer     what a call of a home answers to its caller
 --   of_load    the answer that a load's result makes
 --   of_change  the answer that a store's or an apply's result makes
@@ -7,24 +6,22 @@
 --   answered   the answers to a list of calls, in their order
 --   finally    the values after a list of calls
 --   Played     that a play gave these answers, and left these values
-use Rattle.std.specs.Prelude.{◌≡◌, List, [], ◌∷◌, Some, None, Option, Ok, Err, Result, slice_set}
+use Rattle.std.specs.Prelude.{◌≡◌, List, [], ◌∷◌, Ok, Err, Result, slice_set}
 use Rattle.operation.specs.Algebra.{Algebra, applied}
 use Rattle.memory.specs.declared.Refusal.{Refusal}
 use Rattle.memory.specs.Homes.{loaded, placed}
 use Rattle.layering.specs.declared.calls.Call.{Call}
 use Rattle.layering.specs.declared.calls.Call.TheVariants.{Load, Store, Apply}
-
--- a value to a load, none to a store or an apply
-abbrev pub Answer : Type 0 → Type 0
-Answer V = Result (Option V) Refusal
+use Rattle.layering.specs.declared.calls.Answer.{Answer}
+use Rattle.layering.specs.declared.calls.Answer.TheVariants.{Value, Done, Refused}
 
 abbrev pub of_load : {V : Type 0} → Result V Refusal → Answer V
-of_load (Ok v) = Ok (Some v)
-of_load (Err e) = Err e
+of_load (Ok v) = Value v
+of_load (Err e) = Refused e
 
 abbrev pub of_change : {V : Type 0} → Result (Unit {0}) Refusal → Answer V
-of_change (Ok u) = Ok None
-of_change (Err e) = Err e
+of_change (Ok u) = Done
+of_change (Err e) = Refused e
 
 abbrev pub answer : {V P : Type 0} → Call V P → List V → Answer V
 answer (Load i) vs = of_load (loaded vs i)

@@ -1,6 +1,6 @@
 // Calls of a memory as data, and their play on any home.
 ghost use Rattle.std.specs.Prelude.{◌≡◌, MatchResult};
-ghost use Rattle.layering.specs.Plays.{answer, after, Played};
+ghost use Rattle.layering.specs.Plays.{answer, of_change, after, Played};
 
 use memory::{Home, Refusal};
 use operation::Operation;
@@ -14,8 +14,16 @@ pub enum Call<V, P> {
     Apply { place: usize, partial: P },
 }
 
-// What a call answered: a value to a load, none to a store or an apply.
-pub type Answer<V> = Result<Option<V>, Refusal>;
+// What a call answered. (No `Result<Option<V>, Refusal>`: a play keeps an answer for each call, and that is half as large
+// again.)
+#[derive(Clone, Copy, PartialEq, Eq, Debug)]
+pub enum Answer<V> {
+    // Of a load.
+    Value(V),
+    // Of a store or an apply.
+    Done,
+    Refused(Refusal),
+}
 
 // Makes one call.
 pub fn perform<O: Operation, H: Home<O>>(
@@ -26,9 +34,12 @@ pub fn perform<O: Operation, H: Home<O>>(
     ensures after { H.Home.meaning home.new ≡ after O.Operation.algebra call.now (H.Home.meaning home.old) }
 {
     match call {
-        Call::Load { place } => home.load(*place).map(Some),
-        Call::Store { place, value } => home.store(*place, *value).map(|()| None),
-        Call::Apply { place, partial } => home.apply(*place, *partial).map(|()| None),
+        Call::Load { place } => match home.load(*place) {
+            Ok(value) => Answer::Value(value),
+            Err(refusal) => Answer::Refused(refusal),
+        },
+        Call::Store { place, value } => change_answer(home.store(*place, *value)),
+        Call::Apply { place, partial } => change_answer(home.apply(*place, *partial)),
     }
 }
 
@@ -47,4 +58,14 @@ pub fn play<O: Operation, H: Home<O>>(
         answers.push_reserved(perform(home, call));
     }
     Ok(answers)
+}
+
+// The answer of a store or an apply.
+fn change_answer<V>(outcome: Result<(), Refusal>) -> Answer<V>
+    ensures { result ≡ of_change outcome }
+{
+    match outcome {
+        Ok(()) => Answer::Done,
+        Err(refusal) => Answer::Refused(refusal),
+    }
 }

@@ -30,11 +30,11 @@ fn shows_the_same<P: Pile<Peak>>(rt: &impl Abort, heap: Global) -> Result<Counts
     assert_eq!(rt;
         outcome.answers.as_slice(),
         [
-            Ok(None),
-            Ok(None),
-            Ok(None),
-            Ok(Some(30)),
-            Err(Refusal::Place)
+            Answer::Done,
+            Answer::Done,
+            Answer::Done,
+            Answer::Value(30),
+            Answer::Refused(Refusal::Place)
         ]
         .as_slice()
     );
