@@ -9,7 +9,7 @@ use Rattle.tables.specs.declared.request.Request.{Request}
 use Rattle.tables.specs.declared.register.Register.{Register}
 use Rattle.tables.specs.declared.entry.Entry.{Entry}
 use Rattle.tables.specs.declared.ledger.Ledger.{Ledger}
-use Rattle.tables.specs.Lines.{cell_of, is_held, is_of, hits, target}
+use Rattle.tables.specs.Lines.{is_held, is_of, hits, target}
 use Rattle.tables.proofs.Tests.{is_of_held}
 use Rattle.party_set.proofs.Searches.{first_some}
 use Rattle.model.specs.Searches.{own_line_in, own_hit_in}
@@ -42,6 +42,10 @@ low g e =
     let f2 = and_parts (ltb g.hits (2 ^ 63) && ltb g.grants (2 ^ 63)) _ f3.0 in
     let f1 = and_parts (ltb g.hits (2 ^ 63)) _ f2.0 in
     record { hits = ltb-true _ _ f1.0; grants = ltb-true _ _ f1.1; recalls = ltb-true _ _ f2.1; evictions = ltb-true _ _ f3.1; yields = ltb-true _ _ f4.1 }
+
+-- the place of the party's own line that a request hits, in any table that has the party's ways
+pub own_place_in : {V P : Type 0} (ways : ℕ) (ls : List (Line V P)) (p : ℕ) (r : Request V P) (i : ℕ) → p * ways + ways ≤ length ls → own_hit_in ways ls p r ≡ Some i → (i < length ls) × (p * ways ≤ i)
+own_place_in ways ls p r i l e = let f = first_some (λ j. hits r (get_or ls j Invalid)) (p * ways) ways i e in (omega (arith, f.1), f.0)
 
 module _ {O H R V P : Type 0} (op : Algebra V P) (b : Bench O H R V P) (ok : InOrder b) where
   abbrev ways : ℕ
@@ -85,9 +89,9 @@ module _ {O H R V P : Type 0} (op : Algebra V P) (b : Bench O H R V P) (ok : InO
   -- the party's own line that a request hits
   pub own_place : (p : ℕ) (r : Request V P) (i : ℕ) → p < length rs → own_hit_in ways ls p r ≡ Some i → (i < length ls) × (p * ways ≤ i) × (p * ways ≤ 128)
   own_place p r i l e =
-      let g = first_some (λ j. hits r (get_or ls j Invalid)) (p * ways) ways i e in
       let w = own_ways op b ok p l in
-      (omega (arith, g.1, w.0), g.0, w.1)
+      let g = own_place_in ways ls p r i w.0 e in
+      (g.0, g.1, w.1)
 
   module _ (a : ℕ) (n : Next V P) (is : n ≡ decided (length rs) ways ls ds rs a) where
     at : (m : Next V P) → n ≡ m → Apt k tables t a m

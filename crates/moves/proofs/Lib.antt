@@ -1,2 +1,4 @@
 pub mod Aptness
 pub mod Calls
+pub mod Sounds
+pub mod Steps

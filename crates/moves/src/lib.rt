@@ -1,5 +1,6 @@
 // The calls on tables that are known to be legal.
-// Hosts call `protocol`, which audits first; a run, whose tables stay legal, calls these.
+// Hosts call `protocol`, which audits first; a run, whose tables stay legal, calls these. A post and a collect stand over
+// the tables too (`.._over`), for a host that has its home only to read.
 #![tactic(auto)]
 
 mod checks;
@@ -9,7 +10,7 @@ mod relinquish;
 
 pub use answers::{Advanced, Posted};
 pub use checks::{check, in_play};
-pub use collect::collect as collect_legal;
+pub use collect::{collect as collect_legal, collect_over as collect_legal_over};
 pub use decisions::decide;
-pub use post::post as post_legal;
+pub use post::{post as post_legal, post_over as post_legal_over};
 pub use relinquish::relinquish as relinquish_legal;
