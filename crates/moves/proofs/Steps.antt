@@ -24,6 +24,7 @@ use Rattle.model.proofs.Kept.{step_keeps, tabled_closed}
 use Rattle.model.proofs.Legality.{tabled_legal}
 use Rattle.model.proofs.Decisions.{performs}
 use Rattle.model.proofs.Sized.{tabled_of}
+use Rattle.bench.proofs.Orders.{tabled_fits}
 use Rattle.moves.specs.Checks.{passes}
 
 pub passed : (o : Option Refusal) → Ok tt ≡ passes o → o ≡ None
@@ -46,12 +47,18 @@ module _ {V P R : Type 0} (op : Algebra V P) (victim : Rule R) (ways : ℕ) (s :
   tabled : Tabled k s
   tabled = tabled_of op victim ways s sizes ok
 
-  pub stays_legal : Sound k → (c : Call V P) → Legal ways (step k s c).0.lines (step k s c).0.directory (step k s c).0.registers
-  stays_legal sound c = tabled_legal k (step k s c).0 (step_keeps k sound (λ s b. Tabled k s) (tabled_closed k) s (at_making s.home) tabled c)
+  after : Sound k → (c : Call V P) (z : State V P R) → z ≡ (step k s c).0 → Tabled k z
+  after sound c z e = subst (Tabled k) (sym e) (step_keeps k sound (λ s b. Tabled k s) (tabled_closed k) s (at_making s.home) tabled c)
 
-  -- so is a state that is the one after the step
+  -- a state that is the one after the step is legal, and its tables have the right sizes
   pub left_legal : Sound k → (c : Call V P) (z : State V P R) → z ≡ (step k s c).0 → Legal ways z.lines z.directory z.registers
-  left_legal sound c z e = subst (λ (z : State V P R). Legal ways z.lines z.directory z.registers) (sym e) (stays_legal sound c)
+  left_legal sound c z e = tabled_legal k z (after sound c z e)
+
+  pub left_fits : Sound k → (c : Call V P) (z : State V P R) → z ≡ (step k s c).0 → fits ways z.lines z.directory z.registers ≡ true
+  left_fits sound c z e = tabled_fits k z (after sound c z e)
+
+  pub stays_legal : Sound k → (c : Call V P) → Legal ways (step k s c).0.lines (step k s c).0.directory (step k s c).0.registers
+  stays_legal sound c = left_legal sound c (step k s c).0 refl
 
   -- what is left of a chain of checks once the tables are known to be legal and of the right sizes
   pub rest_of : (o : Option Refusal) → need (fits ways s.lines s.directory s.registers) Sizes (need (legal ways s.lines s.directory s.registers) Illegal o) ≡ o

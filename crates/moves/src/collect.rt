@@ -26,7 +26,8 @@ fn collect_checks(ledger: &Ledger, parties: usize, party: usize) -> Result<(), R
 }
 
 // Hands out the answer in a party's register and empties it. (Over the tables, with the home lent to be read: a collect
-// changes nothing in it, so a host that has its home only to read may collect too. A bench holds its home to be changed.)
+// changes nothing in it, so a host that has its home only to read may collect too, and a bench holds its home to be
+// changed. What it leaves can be lent to the next call as it is.)
 pub fn collect_over<O: Operation, H: Home<O>, R: Victim>(
     lines: &mut [Line<O::Value, O::Partial>],
     directory: &mut [Entry],
@@ -42,6 +43,7 @@ pub fn collect_over<O: Operation, H: Home<O>, R: Victim>(
     ensures answer { collected result ≡ (step (bench O.Operation.algebra R.Victim.rule ways (state lines.old directory.old registers.old ledger.old rule.old (H.Home.meaning home.now))) (state lines.old directory.old registers.old ledger.old rule.old (H.Home.meaning home.now)) (Collect party)).1 }
     ensures state { state lines.new directory.new registers.new ledger.new rule.new (H.Home.meaning home.now) ≡ (step (bench O.Operation.algebra R.Victim.rule ways (state lines.old directory.old registers.old ledger.old rule.old (H.Home.meaning home.now))) (state lines.old directory.old registers.old ledger.old rule.old (H.Home.meaning home.now)) (Collect party)).0 }
     ensures legal { Legal ways lines.new directory.new registers.new }
+    ensures sizes { fits ways lines.new directory.new registers.new ≡ true }
 {
     collect_checks(ledger, registers.len(), party)?;
     match register_at(registers, party) {

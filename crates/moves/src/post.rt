@@ -104,8 +104,8 @@ fn finish_hit<O: Operation, H: Home<O>, R: Victim>(
 }
 
 // Finishes the request at once if a line of its party allows it, or lets it wait. (Over the tables, with the home lent to
-// be read: a post changes nothing in it, so a host that has its home only to read may post too. A bench holds its home to
-// be changed.)
+// be read: a post changes nothing in it, so a host that has its home only to read may post too, and a bench holds its home
+// to be changed. What it leaves can be lent to the next call as it is.)
 pub fn post_over<O: Operation, H: Home<O>, R: Victim>(
     lines: &mut [Line<O::Value, O::Partial>],
     directory: &mut [Entry],
@@ -122,6 +122,7 @@ pub fn post_over<O: Operation, H: Home<O>, R: Victim>(
     ensures answer { posted result ≡ (step (bench O.Operation.algebra R.Victim.rule ways (state lines.old directory.old registers.old ledger.old rule.old (H.Home.meaning home.now))) (state lines.old directory.old registers.old ledger.old rule.old (H.Home.meaning home.now)) (Post party request)).1 }
     ensures state { state lines.new directory.new registers.new ledger.new rule.new (H.Home.meaning home.now) ≡ (step (bench O.Operation.algebra R.Victim.rule ways (state lines.old directory.old registers.old ledger.old rule.old (H.Home.meaning home.now))) (state lines.old directory.old registers.old ledger.old rule.old (H.Home.meaning home.now)) (Post party request)).0 }
     ensures legal { Legal ways lines.new directory.new registers.new }
+    ensures sizes { fits ways lines.new directory.new registers.new ≡ true }
 {
     post_checks(ledger, directory.len(), registers, party, &request)?;
     match own_hit(lines, ways, party, request) {
