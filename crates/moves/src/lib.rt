@@ -9,14 +9,8 @@ mod post;
 mod relinquish;
 
 pub use answers::{Advanced, Posted};
-<<<<<<< HEAD
 pub use checks::{check, in_play, in_play_over};
 pub use collect::{collect as collect_legal, collect_over as collect_legal_over};
 pub use decisions::{decide, find_line};
-=======
-pub use checks::{check, in_play};
-pub use collect::{collect as collect_legal, collect_over as collect_legal_over};
-pub use decisions::decide;
->>>>>>> 3643455e7f6092e1cc1de6c68ea1645d29203ca8
 pub use post::{post as post_legal, post_over as post_legal_over};
 pub use relinquish::relinquish as relinquish_legal;
