@@ -1,7 +1,5 @@
 -- A place is within the cells or outside them: what a home answers there, and what an answer says of the place.
-use Rattle.std.proofs.Common.{◌≡◌, ℕ, zero, suc, ◌<◌, ◌≤◌, ltb, List, [], ◌∷◌, length, get_or, is_ok, Some, None, Option, Bor, Ok, Err, sym, refl, ap, ◌∙◌, inl, inr, arith}
-use Rattle.std.specs.Option.{ok_or, option_copied}
-use Rattle.std.specs.Slice.{IsItemAt}
+use Rattle.std.proofs.Common.{◌≡◌, ℕ, zero, suc, ◌<◌, ◌≤◌, ltb, List, [], ◌∷◌, length, get_or, is_ok, Ok, Err, sym, refl, ap, ◌∙◌, inl, inr, arith}
 use Rattle.std.proofs.lemmas.Bool.{cases_lt, lt-ltb, le-ltb, ltb-true, ltb-false}
 use Rattle.memory.specs.declared.Refusal.{Refusal}
 use Rattle.memory.specs.declared.Refusal.TheVariants.{Place}
@@ -16,11 +14,6 @@ pub loaded_outside : {V : Type 0} (cs : List V) (i : ℕ) → length cs ≤ i �
 loaded_outside [] i h = refl
 loaded_outside (v ∷ vs) zero h = absurd (omega arith)
 loaded_outside (v ∷ vs) (suc i) h = loaded_outside vs i (omega arith)
-
--- a look into the cells finds what a load answers
-pub loaded_looked : {V : Type 0} (cs : List V) (i : ℕ) (r : Option (Bor V)) → IsItemAt cs i r → ok_or (option_copied r) Place ≡ loaded cs i
-loaded_looked cs i None look = sym (loaded_outside cs i (ltb-false i (length cs) (sym look.0)))
-loaded_looked cs i (Some v) look = sym (loaded_within cs i v.now (ltb-true i (length cs) (sym look.0)) ∙ ap Ok (sym look.1))
 
 pub placed_within : {V : Type 0} (cs : List V) (i : ℕ) → i < length cs → placed cs i ≡ Ok tt
 placed_within [] i h = absurd (omega arith)

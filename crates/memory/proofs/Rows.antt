@@ -1,7 +1,8 @@
 -- The values of a row that count, and those beyond: how many, what a load finds, what a write leaves.
-use Rattle.std.proofs.Common.{◌≡◌, ℕ, zero, suc, ◌<◌, ◌≤◌, min, List, [], ◌∷◌, ◌++◌, length, take, set, refl, ap, ◌∙◌}
+use Rattle.std.proofs.Common.{◌≡◌, ℕ, zero, suc, ◌<◌, ◌≤◌, min, List, [], ◌∷◌, ◌++◌, length, get_or, take, set, Ok, sym, refl, ap, ◌∙◌, arith}
 use native.Mathlib.Nat.{min_comm}
-use Rattle.std.proofs.lemmas.List.{length-take, take_all, take-append-drop, take_min, drop-set-lt}
+use Rattle.std.proofs.lemmas.List.{length-take, get_or-take, take_all, take-append-drop, take_min, drop-set-lt}
+use Rattle.memory.specs.Homes.{loaded}
 use Rattle.memory.specs.Row.{counted, beyond}
 use Rattle.memory.proofs.Places.{loaded_within, placed_within, placed_outside, placed_from_loaded, outside_from_loaded}
 use Rattle.memory.proofs.Applied.{applied_loaded}
@@ -18,6 +19,12 @@ counted_few row h = take_all 65536 row h
 pub counted_beyond : {V : Type 0} (row : List V) → counted row ++ beyond row ≡ row
 unfolding counted beyond
 counted_beyond row = take-append-drop 65536 row
+
+pub loaded_counted : {V : Type 0} (row : List V) (i : ℕ) (v : V) → i < length (counted row) → v ≡ get_or row i v → loaded (counted row) i ≡ Ok v
+unfolding counted
+loaded_counted row i v h e =
+    let few : i < 65536 = omega (arith, length_counted row) in
+    loaded_within (take 65536 row) i v h ∙ ap Ok (get_or-take 65536 row i v few ∙ sym e)
 
 take_set_any : {V : Type 0} (n : ℕ) (row : List V) (i : ℕ) (v : V) → take n (set row i v) ≡ set (take n row) i v
 take_set_any zero [] i v = refl

@@ -31,14 +31,6 @@ impl<O: Operation> PlainCells<O> {
         let PlainCells { row } = self;
         row
     }
-
-    // The values that count.
-    #[tactic(auto, using(crate::proofs::Rows::cells))]
-    fn counted(&self) -> &[O::Value]
-        ensures { result.now ≡ counted self.now.row.items }
-    {
-        &self.row[..self.cells()]
-    }
 }
 
 // A method with a clause of its own repeats those of the trait that do not follow from it.
@@ -54,7 +46,11 @@ impl<O: Operation> Home<O> for PlainCells<O> {
         ensures value { result ≡ loaded (counted self.old.row.items) place }
         ensures same { self.new ≡ self.old }
     {
-        self.counted().get(place).copied().ok_or(Refusal::Place)
+        if place < self.cells() {
+            Ok(self.row[place])
+        } else {
+            Err(Refusal::Place)
+        }
     }
 
     #[tactic(auto, using(crate::proofs::Rows::cells))]

@@ -1,11 +1,13 @@
-use Rattle.std.proofs.Common.{ap, ◌∙◌}
-use Rattle.std.specs.Option.{ok_or}
-use Rattle.memory.specs.declared.Refusal.TheVariants.{Place}
-use Rattle.memory.specs.Homes.{loaded}
-use Rattle.memory.proofs.Places.{loaded_looked}
+use Rattle.std.proofs.Common.{rules}
+use Rattle.memory.proofs.Places.{loaded_outside}
+use Rattle.memory.proofs.Rows.{length_counted, loaded_counted}
 use Rattle.memory.proofs.plain.PlainCellsHome.load.Goals as goal
 
-pub returns-clause-value : goal.returns-clause-value
-returns-clause-value g c =
-    let look = loaded_looked c.counted.result.now c.args.place c.get.result c.get.ensures.lookup in
-    c.ok_or.ensures.value ∙ ap (λ r. ok_or r Place) c.copied.ensures ∙ look ∙ ap (λ cs. loaded cs c.args.place) c.counted.ensures
+pub index-requires : goal.index-requires
+index-requires g c = search (rules, length_counted)
+
+pub returns-then-place-cells : goal.returns-then-place-cells
+returns-then-place-cells g c = search (rules, loaded_counted)
+
+pub returns-else-place-cells : goal.returns-else-place-cells
+returns-else-place-cells g c = search (rules, loaded_outside)
