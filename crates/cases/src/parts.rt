@@ -6,7 +6,7 @@ ghost use Rattle.cases.specs.Replies.{done_or, made_of, value_or};
 use super::texts::Reply;
 use memory::{Combining, Home, PlainCells};
 use operation::{Count, Delta, Operation, Total};
-use protocol::{Bench, abandon_bench, make};
+use protocol::{abandon, make_over};
 use tables::{Entry, Ledger, Line, Register, Status};
 use victim::Rotate;
 
@@ -66,7 +66,7 @@ fn show_make(rt: &HostRuntime, parties: usize, cells: usize) -> anyhow::Result<(
     requires { (parties ≤ 17) × (cells ≤ 257) }
 {
     let row = vec![in rt.alloc(); Count::new(0); 257]?;
-    let mut home = PlainCells::<Total>::new(row);
+    let home = PlainCells::<Total>::new(row);
     let mut lines = [Line::<Count, Delta>::Invalid; 17];
     let mut directory = [Entry::free(0); 257];
     let mut registers = [Register::<Count, Delta>::Empty; 17];
@@ -74,35 +74,35 @@ fn show_make(rt: &HostRuntime, parties: usize, cells: usize) -> anyhow::Result<(
         &mut lines[0..parties],
         &mut directory[0..cells],
         &mut registers[0..parties],
-        &mut home,
+        &home,
     );
     println!(rt; "make of {parties} parties and {cells} cells: {reply}")?;
     Ok(())
 }
 
-// What a make of a bench with one way for each party comes to. A bench that is made is given up at once.
+// What a make of a bench with one way for each party comes to. A bench that is made is given up at once. (Over lent
+// tables: its home is lent to it to be read alone.)
 fn make_and_abandon(
     lines: &mut [Line<Count, Delta>],
     directory: &mut [Entry],
     registers: &mut [Register<Count, Delta>],
-    home: &mut PlainCells<Total>,
+    home: &PlainCells<Total>,
 ) -> Reply
-    ensures { result ≡ made_of lines.old directory.old registers.old (cells_of home.old) }
+    ensures { result ≡ made_of lines.old directory.old registers.old (cells_of home.now) }
 {
     let mut ledger = Ledger::new(Status::Closed);
-    let mut rule = Rotate::new();
-    let mut bench = Bench::<Total, PlainCells<Total>, Rotate>::over(
+    let rule = Rotate::new();
+    match make_over::<Total, PlainCells<Total>, Rotate>(
         lines,
         directory,
         registers,
         &mut ledger,
-        &mut rule,
+        &rule,
         home,
         1,
-    );
-    match make(&mut bench) {
+    ) {
         Ok(ticket) => {
-            let _ = abandon_bench(ticket, &mut bench);
+            let _ = abandon(ticket, lines, &mut ledger);
             Reply::Done
         }
         Err(refusal) => Reply::Refused(refusal.number()),

@@ -55,7 +55,8 @@ impl fmt::Display for Tally {
             yields,
             ..
         } = self.0;
-        write!(f,
+        write!(
+            f,
             "tally hits {hits} grants {grants} recalls {recalls} evictions {evictions} yields {yields}"
         )
     }
