@@ -1,5 +1,5 @@
 // The text of a list of calls, and its first line.
-ghost use Rattle.std.specs.Prelude.{◌≡◌, ◌+◌, take, IfOk, count_by, IfErr};
+ghost use Rattle.std.specs.Prelude.{◌≡◌, ◌+◌, ◌≤◌, length, take, IfOk, count_by, IfErr};
 ghost use Rattle.call_report.specs.Inputs.{line_feed, Headed};
 
 use call_list::{Fault, Reason, read_head};
@@ -42,6 +42,20 @@ fn read_first(text: &str) -> Result<(Kind, usize), Reason>
 fn line_at(input: &[u8], place: usize) -> usize
     ensures { result ≡ count_by line_feed (take place input.now) + 1 }
 {
-    let before = &input[..place.min(input.len())];
-    before.iter().filter(|byte| **byte == b'\n').count() + 1
+    line_feeds(&input[..place.min(input.len())]) + 1
+}
+
+// A loop, and no `filter` and `count`: of a loop the compiler makes steps of many bytes, and an input that is refused may
+// be long.
+fn line_feeds(bytes: &[u8]) -> usize
+    ensures value { result ≡ count_by line_feed bytes.now }
+    ensures bound { result ≤ length bytes.now }
+{
+    let mut feeds = 0usize;
+    for byte in bytes {
+        if *byte == b'\n' {
+            feeds += 1;
+        }
+    }
+    feeds
 }
