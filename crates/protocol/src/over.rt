@@ -1,5 +1,5 @@
 // Calls for hosts that have no bench at hand, since they can lend some of it only to be read: the same steps, over lent
-// tables. (An advance and a yield change all of it but the rule, or all of it: they are made of a bench alone.)
+// tables. (An advance and a yield change the home: they are made of a bench alone.)
 ghost use Rattle.std.specs.Prelude.{◌≡◌, true, false, is_ok};
 ghost use Rattle.tables.specs.Legal.{Legal};
 ghost use Rattle.model.specs.Bench.{state};
