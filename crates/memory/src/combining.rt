@@ -81,10 +81,10 @@ impl<O: Operation, H: Home<O>> Home<O> for Combining<O, H> {
             (Some(held), place) => {
                 // A place that is refused below has no value to act on.
                 let _ = self.below.apply(held.place, held.partial);
-                *held = Pending { place, partial };
+                self.held = Some(Pending { place, partial });
             }
-            (held, place) => {
-                *held = Some(Pending { place, partial });
+            (None, place) => {
+                self.held = Some(Pending { place, partial });
             }
         }
         Ok(())

@@ -1,5 +1,5 @@
 // A collect of an answer.
-ghost use Rattle.std.specs.Prelude.{◌≡◌, true, length, None, nat_lt};
+ghost use Rattle.std.specs.Prelude.{◌≡◌, true, None, nat_lt};
 ghost use Rattle.tables.specs.declared.refusal.Refusal.TheVariants.{LedgerClosed, NoSuchParty};
 ghost use Rattle.tables.specs.Ledgers.{is_open};
 ghost use Rattle.tables.specs.Legal.{Legal, fits};
